@@ -1,0 +1,6 @@
+pub mod Choice
+pub mod Grounds
+pub mod Tests
+pub mod Fill
+pub mod Part
+pub mod Order

@@ -1,0 +1,32 @@
+-- A list of tests taken apart by number, and put together. Assumes nothing.
+use Prim.Native.Nat.{ℕ, zero, suc}
+use mathlib.Core.Path.{_≡_, refl}
+use mathlib.Core.Bool.{Bool, true, false, _&&_}
+use mathlib.Core.List.{List, [], _∷_}
+use lib.ListN.{getD}
+use Rattle.common.specs.Tests.{conj, conjFrom, AllHold}
+use Rattle.common.proofs.Choice.{and-left, and-right}
+
+first : (a : Bool) (ts : List Bool) → conjFrom a ts ≡ true → a ≡ true
+first a [] h = h
+first a (b ∷ bs) h = and-left a b (first (a && b) bs h)
+
+from : (a : Bool) (ts : List Bool) → conjFrom a ts ≡ true → (i : ℕ) → getD (a ∷ ts) i true ≡ true
+from a ts h zero = first a ts h
+from a [] h (suc i) = refl
+from a (b ∷ bs) h (suc zero) = and-right a b (first (a && b) bs h)
+from a (b ∷ bs) h (suc (suc i)) = from (a && b) bs h (suc i)
+
+-- each test of a list that holds, by its number
+pub each : (ts : List Bool) → conj ts ≡ true → (i : ℕ) → getD ts i true ≡ true
+each [] h i = refl
+each (a ∷ bs) h i = from a bs h i
+
+onward : (a : Bool) (ts : List Bool) → a ≡ true → AllHold ts → conjFrom a ts ≡ true
+onward a [] e h = e
+onward a (b ∷ bs) e h = onward (a && b) bs (λ i. e i && h .0 i) (h .1)
+
+-- the list holds if its tests do
+pub together : (ts : List Bool) → AllHold ts → conj ts ≡ true
+together [] h = refl
+together (a ∷ bs) h = onward a bs (h .0) (h .1)

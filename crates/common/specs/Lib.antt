@@ -1,0 +1,4 @@
+pub mod Grounds
+pub mod Tests
+pub mod Fill
+pub mod Bits

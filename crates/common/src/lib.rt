@@ -1,0 +1,21 @@
+// What every crate shares: a bit by its weight. The definitions and laws that all crates cite are in specs/ and proofs/.
+ghost use mathlib.Core.Path.{_≡_};
+ghost use mathlib.Core.Bool.{cond};
+ghost use Prim.Native.Nat.{_<_, _≤_};
+ghost use Rattle.common.specs.Bits.{bitSet};
+
+// Whether the bit of this weight is set.
+pub fn bit(x: u8, weight: u8) -> bool
+    requires { ⌜ 0 < weight ⌝ }
+    ensures { λ r. ⌜ r ≡ bitSet x weight ⌝ }
+{
+    x / weight % 2 == 1
+}
+
+// A bit's weight where it is set, else 0.
+pub fn weight(on: bool, w: u8) -> u8
+    ensures value { λ r. ⌜ r ≡ cond on w 0 ⌝ }
+    ensures bound { λ r. ⌜ r ≤ w ⌝ }
+{
+    if on { w } else { 0 }
+}
