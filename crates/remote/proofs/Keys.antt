@@ -1,0 +1,53 @@
+-- What is known of a key: it is addressed to us, and it has bytes. Assumes nothing.
+use Prim.Native.Nat.{ℕ, _/_, _%_, _<_}
+use mathlib.Core.Path.{_≡_}
+use mathlib.Core.Bool.{Bool, true, false, cond, _&&_}
+use native.Mathlib.Omega.{arith}
+use lib.Dec.{eqb}
+use Rattle.common.proofs.Choice.{of-cond}
+use Rattle.remote.specs.declared.Received.{Received}
+use Rattle.remote.specs.declared.Received.the-variants.{Key, NoKey}
+use Rattle.remote.specs.Frame.{complements, necKey, rc5Key, sentBy, addressed, ours, keyOf}
+
+-- a key has bytes
+abbrev Bytes : Received → Type 0
+Bytes (Key a c) = (a < 256) × (c < 256)
+Bytes NoKey = Unit
+
+tested-bytes : (b : Bool) (a c : ℕ) → a < 256 → c < 256 → Bytes (cond b (Key a c) NoKey)
+tested-bytes true a c h k = (h, k)
+tested-bytes false a c h k = tt
+
+nec-bytes : (f : ℕ) → Bytes (necKey f)
+unfolding necKey
+nec-bytes f =
+    tested-bytes (complements (f % 256) (f / 256 % 256) && complements (f / 65536 % 256) (f / 16777216 % 256)) (f % 256)
+    (f / 65536 % 256) (omega arith) (omega arith)
+
+rc5-bytes : (f : ℕ) → Bytes (rc5Key f)
+unfolding rc5Key
+rc5-bytes f = tested-bytes (eqb (f / 4096) 3) (f / 64 % 32) (f % 64) (omega arith) (omega arith)
+
+sent-bytes : (p f : ℕ) → Bytes (sentBy p f)
+unfolding sentBy
+sent-bytes p f =
+    of-cond Bytes (eqb p 4) (necKey f) (cond (eqb p 2) (rc5Key f) NoKey) (λ e. nec-bytes f)
+    (λ e. of-cond Bytes (eqb p 2) (rc5Key f) NoKey (λ d. rc5-bytes f) (λ d. tt))
+
+-- a key is addressed to us and has bytes
+pub record IsOurs (a c : ℕ) : Type 0 where
+  pub to-us : addressed a ≡ true
+  pub address : a < 256
+  pub command : c < 256
+
+abbrev pub Ours : Received → Type 0
+Ours (Key a c) = IsOurs a c
+Ours NoKey = Unit
+
+all-ours : (r : Received) → Bytes r → Ours (ours r)
+all-ours (Key a c) h = of-cond Ours (addressed a) (Key a c) NoKey (λ e. record { to-us = e; address = h .0; command = h .1 }) (λ e. tt)
+all-ours NoKey h = tt
+
+pub key-ours : (p f : ℕ) → Ours (keyOf p f)
+unfolding keyOf
+key-ours p f = all-ours (sentBy p f) (sent-bytes p f)

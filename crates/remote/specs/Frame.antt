@@ -1,0 +1,42 @@
+-- Which key a remote frame is (document 01, "Remote frame"). A frame is a number of 32 bits.
+use Prim.Native.Nat.{ℕ, _+_, _/_, _%_}
+use mathlib.Core.Bool.{Bool, cond, _&&_}
+use lib.Dec.{eqb}
+use Rattle.remote.specs.declared.Received.{Received}
+use Rattle.remote.specs.declared.Received.the-variants.{Key, NoKey}
+
+-- a byte and its complement
+abbrev pub complements : ℕ → ℕ → Bool
+complements b c = eqb (b + c) 255
+
+-- NEC: address, its complement, command, its complement, the first byte received lowest
+unfoldable pub necKey : ℕ → Received
+necKey f =
+    cond (complements (f % 256) (f / 256 % 256) && complements (f / 65536 % 256) (f / 16777216 % 256))
+    (Key (f % 256) (f / 65536 % 256)) NoKey
+
+-- RC-5: from bit 13 down two start bits 1, toggle, 5 bits of address, 6 of command; above bit 13 all 0
+unfoldable pub rc5Key : ℕ → Received
+rc5Key f = cond (eqb (f / 4096) 3) (Key (f / 64 % 32) (f % 64)) NoKey
+
+-- the key that a frame sends, for any device: protocol 4 is NEC, 2 is RC-5, any other sends none
+unfoldable pub sentBy : ℕ → ℕ → Received
+sentBy protocol f = cond (eqb protocol 4) (necKey f) (cond (eqb protocol 2) (rc5Key f) NoKey)
+
+-- THE ADDRESS TEST: only device address 0 is a key
+abbrev pub addressed : ℕ → Bool
+addressed a = eqb a 0
+
+-- what of it is sent to us
+abbrev pub ours : Received → Received
+ours (Key a c) = cond (addressed a) (Key a c) NoKey
+ours NoKey = NoKey
+
+-- the key that a frame is
+unfoldable pub keyOf : ℕ → ℕ → Received
+keyOf protocol f = ours (sentBy protocol f)
+
+-- the number of a frame's call: 0 for a key, 11 for none
+abbrev pub refusalOf : Received → ℕ
+refusalOf (Key a c) = 0
+refusalOf NoKey = 11
