@@ -4,3 +4,5 @@ pub mod Tests
 pub mod Fill
 pub mod Part
 pub mod Order
+pub mod Spell
+pub mod Each

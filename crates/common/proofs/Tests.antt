@@ -6,6 +6,7 @@ use mathlib.Core.List.{List, [], _∷_}
 use lib.ListN.{getD}
 use Rattle.common.specs.Tests.{conj, conjFrom, AllHold}
 use Rattle.common.proofs.Choice.{and-left, and-right}
+use Rattle.common.proofs.Each.{Each, done, _also_}
 
 first : (a : Bool) (ts : List Bool) → conjFrom a ts ≡ true → a ≡ true
 first a [] h = h
@@ -30,3 +31,11 @@ onward a (b ∷ bs) e h = onward (a && b) bs (λ i. e i && h .0 i) (h .1)
 pub together : (ts : List Bool) → AllHold ts → conj ts ≡ true
 together [] h = refl
 together (a ∷ bs) h = onward a bs (h .0) (h .1)
+
+-- the same, its tests given one after the other: `p also q also done`
+pub all-hold : (ts : List Bool) → Each (λ (b : Bool). b ≡ true) ts → conj ts ≡ true
+all-hold ts h = together ts (in-turn ts h)
+  where
+    in-turn : (ts : List Bool) → Each (λ (b : Bool). b ≡ true) ts → AllHold ts
+    in-turn [] done = tt
+    in-turn (b ∷ bs) (p also ps) = (p, in-turn bs ps)

@@ -2,3 +2,4 @@ pub mod Grounds
 pub mod Tests
 pub mod Fill
 pub mod Bits
+pub mod Spell

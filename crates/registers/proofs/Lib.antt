@@ -1,0 +1,5 @@
+pub mod Bcd
+pub mod Kept
+pub mod Written
+pub mod Reserved
+pub mod Watchdog

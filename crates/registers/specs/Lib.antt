@@ -1,0 +1,4 @@
+pub mod Names
+pub mod Bcd
+pub mod Written
+pub mod Watchdog

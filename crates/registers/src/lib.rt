@@ -1,0 +1,169 @@
+// The sixteen clock registers 00h..0Fh, held as an array by value.
+ghost use mathlib.Core.Path.{_≡_};
+ghost use Prim.Native.Nat.{_+_, _≤_, _<_, min};
+ghost use lib.ListN.{length};
+ghost use Rattle.registers.specs.Names.{stopped, AFE, ABE, WDFEn};
+ghost use Rattle.registers.specs.Bcd.{digits, bcd, inRange};
+ghost use Rattle.registers.specs.Written.{kept, reservedClear, stored, written};
+ghost use Rattle.registers.specs.Watchdog.{watchdogLoad};
+use units::Sixteenths;
+
+const SECONDS: usize = 0x01;
+
+const MINUTES: usize = 0x02;
+
+const HOURS: usize = 0x03;
+
+const WEEKDAY: usize = 0x04;
+
+const DATE: usize = 0x05;
+
+const MONTH: usize = 0x06;
+
+const YEAR: usize = 0x07;
+
+const CALIBRATION: usize = 0x08;
+
+const ALARM_MONTH: usize = 0x0A;
+
+const ALARM_DATE: usize = 0x0B;
+
+const ALARM_HOUR: usize = 0x0C;
+
+const ALARM_MINUTE: usize = 0x0D;
+
+const ALARM_SECOND: usize = 0x0E;
+
+const ALARM_WEEKDAY: usize = 0x0F;
+
+// 01h b7: whether the oscillator is stopped.
+pub fn is_stopped(registers: [u8; 16]) -> bool
+    ensures { λ r. ⌜ r ≡ stopped registers ⌝ }
+{
+    common::bit(registers[SECONDS], 128)
+}
+
+// 0Ah b7: whether a match raises the alarm.
+pub fn afe(registers: [u8; 16]) -> bool
+    ensures { λ r. ⌜ r ≡ AFE registers ⌝ }
+{
+    common::bit(registers[ALARM_MONTH], 128)
+}
+
+// 0Ah b5: whether the alarm counts in backup.
+pub fn abe(registers: [u8; 16]) -> bool
+    ensures { λ r. ⌜ r ≡ ABE registers ⌝ }
+{
+    common::bit(registers[ALARM_MONTH], 32)
+}
+
+// 0Fh b7: whether the watchdog's end raises its flag.
+pub fn wdfen(registers: [u8; 16]) -> bool
+    ensures { λ r. ⌜ r ≡ WDFEn registers ⌝ }
+{
+    common::bit(registers[ALARM_WEEKDAY], 128)
+}
+
+// The number that a byte's two digits write.
+pub fn number(b: u8) -> u32
+    ensures { λ r. ⌜ r ≡ digits b ⌝ }
+{
+    (b / 16 * 10 + b % 16) as u32
+}
+
+// The byte of a number's last two digits.
+pub fn bcd_byte(x: u32) -> u8
+    ensures { λ r. ⌜ r ≡ bcd x ⌝ }
+{
+    (x / 10 % 10 * 16 + x % 10) as u8
+}
+
+// Whether a byte's digits write a number from lo to hi.
+fn in_range(lo: u32, hi: u32, b: u8) -> bool
+    ensures { λ r. ⌜ r ≡ inRange lo hi b ⌝ }
+{
+    let x = (b / 16 * 10 + b % 16) as u32;
+    (b / 16 <= 9) & (b % 16 <= 9) & (lo <= x) & (x <= hi)
+}
+
+// The byte b as register a keeps it: reserved bits are dropped.
+fn kept_bits(a: usize, b: u8) -> u8
+    requires { ⌜ a < 16 ⌝ }
+    ensures { λ r. ⌜ r ≡ kept a b ⌝ }
+{
+    let kept = [
+        0,
+        b,
+        b % 128,
+        b,
+        b % 8,
+        b % 64,
+        b / 64 * 64 + b % 32,
+        b,
+        b / 128 * 128 + b % 64,
+        b,
+        b / 128 * 128 + b % 64,
+        b,
+        b,
+        b,
+        b,
+        b / 16 * 16,
+    ];
+    kept[a]
+}
+
+// Whether every reserved bit is 0.
+pub fn reserved_clear(registers: [u8; 16]) -> bool
+    ensures { λ r. ⌜ r ≡ reservedClear registers ⌝ }
+{
+    (registers[0x00] == 0)
+        & (registers[MINUTES] < 128)
+        & (registers[WEEKDAY] < 8)
+        & (registers[DATE] < 64)
+        & (registers[MONTH] / 32 % 2 == 0)
+        & (registers[CALIBRATION] / 64 % 2 == 0)
+        & (registers[ALARM_MONTH] / 64 % 2 == 0)
+        & (registers[ALARM_WEEKDAY] % 16 == 0)
+}
+
+// The smaller of two lengths.
+fn shorter(x: usize, y: usize) -> usize
+    ensures { λ r. ⌜ r ≡ min x y ⌝ }
+{
+    if x <= y { x } else { y }
+}
+
+// Stores bytes over dst, whose first byte is register a.
+fn store(dst: &mut [u8], a: usize, bytes: &[u8])
+    requires { ⌜ a + length (now dst) ≤ 16 ⌝ }
+    ensures { λ _. ⌜ now (dst .exit) ≡ stored a (now (dst .entry)) (now (bytes .entry)) ⌝ }
+{
+    let n = shorter(dst.len(), bytes.len());
+    let mut j = 0;
+    while j < n {
+        dst[j] = kept_bits(a + j, bytes[j]);
+        j += 1;
+    }
+}
+
+// The registers after bytes are written from address a on: the part from there is lent on to be stored into.
+pub fn write(registers: [u8; 16], a: usize, bytes: &[u8]) -> [u8; 16]
+    ensures { λ r. ⌜ r ≡ written registers a (now (bytes .entry)) ⌝ }
+{
+    if a > 16 {
+        return registers;
+    }
+    let mut next = registers;
+    store(&mut next[a..], a, bytes);
+    next
+}
+
+// What a write of the byte b to 09h loads, 0 where that turns the watchdog off.
+pub fn watchdog_load(b: u8) -> Sixteenths
+    ensures { λ r. ⌜ r ≡ watchdogLoad b ⌝ }
+{
+    let rb = (b / 128 * 4 + b % 4) as usize;
+    let bmb = (b / 4 % 32) as u64;
+    let loads = [bmb * 1, bmb * 4, bmb * 16, bmb * 64, bmb * 960, 0, 0, 0];
+    Sixteenths(loads[rb])
+}
