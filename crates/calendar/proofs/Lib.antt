@@ -1,0 +1,4 @@
+pub mod Sums
+pub mod Date
+pub mod Moved
+pub mod Carry

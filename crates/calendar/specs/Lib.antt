@@ -1,0 +1,4 @@
+pub mod Sums
+pub mod Date
+pub mod Clock
+pub mod Carry
