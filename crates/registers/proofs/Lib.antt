@@ -1,4 +1,3 @@
-pub mod Bcd
 pub mod Kept
 pub mod Written
 pub mod Reserved

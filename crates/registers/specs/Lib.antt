@@ -1,4 +1,3 @@
 pub mod Names
-pub mod Bcd
 pub mod Written
 pub mod Watchdog

@@ -1,9 +1,8 @@
-// The sixteen clock registers 00h..0Fh, held as an array by value.
+// The sixteen clock registers 00h..0Fh, held as an array by value: single bits, reserved bits, writing, and what the watchdog loads.
 ghost use mathlib.Core.Path.{_≡_};
 ghost use Prim.Native.Nat.{_+_, _≤_, _<_, min};
 ghost use lib.ListN.{length};
 ghost use Rattle.registers.specs.Names.{stopped, AFE, ABE, WDFEn};
-ghost use Rattle.registers.specs.Bcd.{digits, bcd, inRange};
 ghost use Rattle.registers.specs.Written.{kept, reservedClear, stored, written};
 ghost use Rattle.registers.specs.Watchdog.{watchdogLoad};
 use units::Sixteenths;
@@ -12,27 +11,15 @@ const SECONDS: usize = 0x01;
 
 const MINUTES: usize = 0x02;
 
-const HOURS: usize = 0x03;
-
 const WEEKDAY: usize = 0x04;
 
 const DATE: usize = 0x05;
 
 const MONTH: usize = 0x06;
 
-const YEAR: usize = 0x07;
-
 const CALIBRATION: usize = 0x08;
 
 const ALARM_MONTH: usize = 0x0A;
-
-const ALARM_DATE: usize = 0x0B;
-
-const ALARM_HOUR: usize = 0x0C;
-
-const ALARM_MINUTE: usize = 0x0D;
-
-const ALARM_SECOND: usize = 0x0E;
 
 const ALARM_WEEKDAY: usize = 0x0F;
 
@@ -62,28 +49,6 @@ pub fn wdfen(registers: [u8; 16]) -> bool
     ensures { λ r. ⌜ r ≡ WDFEn registers ⌝ }
 {
     common::bit(registers[ALARM_WEEKDAY], 128)
-}
-
-// The number that a byte's two digits write.
-pub fn number(b: u8) -> u32
-    ensures { λ r. ⌜ r ≡ digits b ⌝ }
-{
-    (b / 16 * 10 + b % 16) as u32
-}
-
-// The byte of a number's last two digits.
-pub fn bcd_byte(x: u32) -> u8
-    ensures { λ r. ⌜ r ≡ bcd x ⌝ }
-{
-    (x / 10 % 10 * 16 + x % 10) as u8
-}
-
-// Whether a byte's digits write a number from lo to hi.
-fn in_range(lo: u32, hi: u32, b: u8) -> bool
-    ensures { λ r. ⌜ r ≡ inRange lo hi b ⌝ }
-{
-    let x = (b / 16 * 10 + b % 16) as u32;
-    (b / 16 <= 9) & (b % 16 <= 9) & (lo <= x) & (x <= hi)
 }
 
 // The byte b as register a keeps it: reserved bits are dropped.

@@ -1,11 +1,8 @@
 -- Two decimal digits in a byte, a nibble each (document 01, "Clock registers": BCD).
 use Prim.Native.Nat.{ℕ, _+_, _*_, _/_, _%_}
 use mathlib.Core.Bool.{Bool, _&&_}
+use mathlib.Core.List.{List, [], _∷_}
 use lib.Dec.{leb}
-
--- each nibble is at most 9
-abbrev pub decimal : ℕ → Bool
-decimal b = leb (b / 16) 9 && leb (b % 16) 9
 
 -- the number that the two digits write
 abbrev pub digits : ℕ → ℕ
@@ -15,6 +12,11 @@ digits b = b / 16 * 10 + b % 16
 abbrev pub bcd : ℕ → ℕ
 bcd x = x / 10 % 10 * 16 + x % 10
 
--- a byte whose digits write a number from lo to hi
-abbrev pub inRange : ℕ → ℕ → ℕ → Bool
-inRange lo hi b = decimal b && leb lo (digits b) && leb (digits b) hi
+-- each nibble of each byte is at most 9
+abbrev pub decimalTests : List ℕ → List Bool
+decimalTests [] = []
+decimalTests (b ∷ bs) = leb (b / 16) 9 ∷ leb (b % 16) 9 ∷ decimalTests bs
+
+-- of one byte
+abbrev pub decimal : ℕ → Bool
+decimal b = leb (b / 16) 9 && leb (b % 16) 9

@@ -1,0 +1,4 @@
+pub mod Bcd
+pub mod Clock
+pub mod Apart
+pub mod Values

@@ -1,0 +1,34 @@
+-- The definitions as the code computes them, value by value: one law for each function that calls others. Assumes nothing.
+use Prim.Native.Nat.{ℕ, _+_, _*_, _/_, _%_}
+use mathlib.Core.Path.{_≡_, ap, _∙_}
+use mathlib.Core.Bool.{Bool, _&&_}
+use mathlib.Core.List.{List, _∷_}
+use Rattle.common.specs.Tests.{conj}
+use Rattle.common.specs.Spell.{spell}
+use Rattle.calendar.specs.declared.Clock.{Clock}
+use Rattle.calendar.specs.Date.{leap, monthLength}
+use Rattle.calendar.specs.Clock.{fullYear}
+use Rattle.registers.specs.Names.{at, SECONDS, MINUTES, HOURS, WEEKDAY, DATE, MONTH, YEAR}
+use Rattle.timekeeper.specs.Bcd.{digits, bcd, decimalTests}
+use Rattle.timekeeper.specs.Clock.{fieldBytes, clockOf, rangeTests, lastDate, validCalendar, underB7, underB7B6, withClock}
+
+pub clock-from : (rs : List ℕ) (century year month date weekday hour minute second : ℕ) → century ≡ at rs MONTH / 64 → year ≡ digits (at rs YEAR) → month ≡ digits (at rs MONTH % 64)
+    → date ≡ digits (at rs DATE) → weekday ≡ digits (at rs WEEKDAY) → hour ≡ digits (at rs HOURS % 64) → minute ≡ digits (at rs MINUTES) → second ≡ digits (at rs SECONDS % 128)
+    → record { century = century; year = year; month = month; date = date; weekday = weekday; hour = hour; minute = minute; second = second } ≡ clockOf rs
+unfolding clockOf
+clock-from rs k y m d w h n s ek ey em ed ew eh en es =
+    λ i. record { century = ek i; year = ey i; month = em i; date = ed i; weekday = ew i; hour = eh i; minute = en i; second = es i }
+
+pub valid-from : (rs : List ℕ) (c : Clock) (leapyear : Bool) (last : ℕ) (decimal ranges : Bool) → c ≡ clockOf rs → leapyear ≡ leap (fullYear c) → last ≡ monthLength leapyear (c .month)
+    → decimal ≡ conj (decimalTests (fieldBytes rs)) → ranges ≡ conj (rangeTests c last) → (decimal && ranges) ≡ validCalendar rs
+unfolding validCalendar
+valid-from rs c l n d r ec el en ed er =
+    (λ i. ed i && (er ∙ ap (λ (last : ℕ). conj (rangeTests c last)) (en ∙ ap (λ (b : Bool). monthLength b (c .month)) el)) i)
+    ∙ ap (λ (x : Clock). conj (decimalTests (fieldBytes rs)) && conj (rangeTests x (lastDate x))) ec
+
+pub with-from : (rs : List ℕ) (c : Clock) (s second minute h hour weekday date month year : ℕ) → s ≡ bcd (c .second) → second ≡ underB7 (at rs SECONDS) s → minute ≡ bcd (c .minute)
+    → h ≡ bcd (c .hour) → hour ≡ underB7B6 (at rs HOURS) h → weekday ≡ bcd (c .weekday) → date ≡ bcd (c .date) → month ≡ bcd (c .month) → year ≡ bcd (c .year)
+    → at rs 0x00 ∷ second ∷ minute ∷ hour ∷ weekday ∷ date ∷ (c .century % 4 * 64 + month % 64) ∷ year ∷ spell 0x08 8 rs ≡ withClock rs c
+unfolding withClock
+with-from rs c s second minute h hour weekday date month year es e1 e2 eh e3 e4 e5 e6 e7 =
+    λ i. at rs 0x00 ∷ (e1 ∙ ap (underB7 (at rs SECONDS)) es) i ∷ e2 i ∷ (e3 ∙ ap (underB7B6 (at rs HOURS)) eh) i ∷ e4 i ∷ e5 i ∷ (c .century % 4 * 64 + e6 i % 64) ∷ e7 i ∷ spell 0x08 8 rs

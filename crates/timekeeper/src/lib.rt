@@ -1,0 +1,149 @@
+// What the clock registers say: the calendar, the alarm, whether they are valid, and what a write to them leaves.
+ghost use mathlib.Core.Path.{_≡_};
+ghost use Prim.Native.Nat.{_/_};
+ghost use Rattle.common.specs.Tests.{conj};
+ghost use Rattle.timekeeper.specs.Bcd.{digits, bcd, decimalTests};
+ghost use Rattle.timekeeper.specs.Clock.{fieldBytes, clockOf, rangeTests, validCalendar, underB7, underB7B6, withClock};
+use calendar::Clock;
+
+const SECONDS: usize = 0x01;
+
+const MINUTES: usize = 0x02;
+
+const HOURS: usize = 0x03;
+
+const WEEKDAY: usize = 0x04;
+
+const DATE: usize = 0x05;
+
+const MONTH: usize = 0x06;
+
+const YEAR: usize = 0x07;
+
+// The number that a byte's two digits write.
+fn number(b: u8) -> u32
+    ensures { λ r. ⌜ r ≡ digits b ⌝ }
+{
+    (b / 16 * 10 + b % 16) as u32
+}
+
+// The byte of a number's last two digits.
+fn bcd_byte(x: u32) -> u8
+    ensures { λ r. ⌜ r ≡ bcd x ⌝ }
+{
+    (x / 10 % 10 * 16 + x % 10) as u8
+}
+
+// The century in b7 and b6.
+fn century(b: u8) -> u32
+    ensures { λ r. ⌜ r ≡ b / 64 ⌝ }
+{
+    (b / 64) as u32
+}
+
+// The calendar that the registers hold.
+pub fn clock_of(registers: [u8; 16]) -> Clock
+    ensures { λ r. ⌜ r ≡ clockOf registers ⌝ }
+{
+    Clock {
+        century: century(registers[MONTH]),
+        year: number(registers[YEAR]),
+        month: number(registers[MONTH] % 64),
+        date: number(registers[DATE]),
+        weekday: number(registers[WEEKDAY]),
+        hour: number(registers[HOURS] % 64),
+        minute: number(registers[MINUTES]),
+        second: number(registers[SECONDS] % 128),
+    }
+}
+
+// Whether each nibble of the calendar is at most 9.
+fn decimal_fields(registers: [u8; 16]) -> bool
+    ensures { λ r. ⌜ r ≡ conj (decimalTests (fieldBytes registers)) ⌝ }
+{
+    (registers[SECONDS] % 128 / 16 <= 9)
+        & (registers[SECONDS] % 128 % 16 <= 9)
+        & (registers[MINUTES] / 16 <= 9)
+        & (registers[MINUTES] % 16 <= 9)
+        & (registers[HOURS] % 64 / 16 <= 9)
+        & (registers[HOURS] % 64 % 16 <= 9)
+        & (registers[WEEKDAY] / 16 <= 9)
+        & (registers[WEEKDAY] % 16 <= 9)
+        & (registers[DATE] / 16 <= 9)
+        & (registers[DATE] % 16 <= 9)
+        & (registers[MONTH] % 64 / 16 <= 9)
+        & (registers[MONTH] % 64 % 16 <= 9)
+        & (registers[YEAR] / 16 <= 9)
+        & (registers[YEAR] % 16 <= 9)
+}
+
+// Whether each field is in range, the date up to last.
+fn in_ranges(c: Clock, last: u32) -> bool
+    ensures { λ r. ⌜ r ≡ conj (rangeTests c last) ⌝ }
+{
+    (c.second <= 59)
+        & (c.minute <= 59)
+        & (c.hour <= 23)
+        & (1 <= c.weekday)
+        & (c.weekday <= 7)
+        & (1 <= c.date)
+        & (c.date <= last)
+        & (1 <= c.month)
+        & (c.month <= 12)
+        & (c.year <= 99)
+}
+
+// Whether the registers hold a calendar that exists.
+pub fn valid(registers: [u8; 16]) -> bool
+    ensures { λ r. ⌜ r ≡ validCalendar registers ⌝ }
+{
+    let c = clock_of(registers);
+    let leapyear = calendar::is_leap(c.century, c.year);
+    let last = calendar::month_length(leapyear, c.month);
+    decimal_fields(registers) & in_ranges(c, last)
+}
+
+// A byte below the flag in b7.
+fn under_b7(flag: u8, b: u8) -> u8
+    ensures { λ r. ⌜ r ≡ underB7 flag b ⌝ }
+{
+    flag / 128 * 128 + b % 128
+}
+
+// A byte below the flags in b7 and b6.
+fn under_b7_b6(flags: u8, b: u8) -> u8
+    ensures { λ r. ⌜ r ≡ underB7B6 flags b ⌝ }
+{
+    flags / 64 * 64 + b % 64
+}
+
+// The registers with another calendar in 01h..07h; flag bits stay.
+pub fn with_clock(registers: [u8; 16], c: Clock) -> [u8; 16]
+    ensures { λ r. ⌜ r ≡ withClock registers c ⌝ }
+{
+    let second = under_b7(registers[SECONDS], bcd_byte(c.second));
+    let minute = bcd_byte(c.minute);
+    let hour = under_b7_b6(registers[HOURS], bcd_byte(c.hour));
+    let weekday = bcd_byte(c.weekday);
+    let date = bcd_byte(c.date);
+    let month = bcd_byte(c.month);
+    let year = bcd_byte(c.year);
+    [
+        registers[0x00],
+        second,
+        minute,
+        hour,
+        weekday,
+        date,
+        (c.century % 4 * 64) as u8 + month % 64,
+        year,
+        registers[0x08],
+        registers[0x09],
+        registers[0x0A],
+        registers[0x0B],
+        registers[0x0C],
+        registers[0x0D],
+        registers[0x0E],
+        registers[0x0F],
+    ]
+}
