@@ -1,0 +1,31 @@
+-- `alarm::is_possible` meets its contract.
+use mathlib.Core.Bool.{_&&_}
+use borrow.Author.Needs.{needs}
+use Rattle.alarm.specs.Match.{possible}
+use Rattle.alarm.proofs.is_possible.Statement.{statement}
+use Rattle.alarm.proofs.is_possible.Tie as tie
+
+field-within-requires : tie.Need-field-within-requires
+field-within-requires c κs = search needs
+
+field-within-requires-2 : tie.Need-field-within-requires-2
+field-within-requires-2 c κs = search needs
+
+field-within-requires-3 : tie.Need-field-within-requires-3
+field-within-requires-3 c κs = search needs
+
+field-within-requires-4 : tie.Need-field-within-requires-4
+field-within-requires-4 c κs = search needs
+
+field-within-requires-5 : tie.Need-field-within-requires-5
+field-within-requires-5 c κs = search needs
+
+field-within-requires-6 : tie.Need-field-within-requires-6
+field-within-requires-6 c κs = search needs
+
+returns : tie.Need-returns
+unfolding possible
+returns c = λ i. ((((c .before .before .before .before .before .field-within .ensures i && c .before .before .before .before .field-within2 .ensures i) && c .before .before .before .field-within3 .ensures i) && c .before .before .field-within4 .ensures i) && c .before .field-within5 .ensures i) && c .field-within6 .ensures i
+
+pub is-possible-spec : {M : Type 1} → statement M
+is-possible-spec = tie.close (tie.spec field-within-requires field-within-requires-2 field-within-requires-3 field-within-requires-4 field-within-requires-5 field-within-requires-6 returns)

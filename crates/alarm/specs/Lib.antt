@@ -1,0 +1,4 @@
+pub mod Search
+pub mod Match
+pub mod Skip
+pub mod Reached
