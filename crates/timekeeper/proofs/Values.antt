@@ -1,16 +1,21 @@
 -- The definitions as the code computes them, value by value: one law for each function that calls others. Assumes nothing.
 use Prim.Native.Nat.{ℕ, _+_, _*_, _/_, _%_}
-use mathlib.Core.Path.{_≡_, ap, _∙_}
-use mathlib.Core.Bool.{Bool, _&&_}
+use mathlib.Core.Path.{_≡_, sym, ap, _∙_}
+use mathlib.Core.Bool.{Bool, true, false, _&&_}
 use mathlib.Core.List.{List, _∷_}
 use Rattle.common.specs.Tests.{conj}
 use Rattle.common.specs.Spell.{spell}
+use Rattle.common.proofs.Choice.{on-true, on-false}
 use Rattle.calendar.specs.declared.Clock.{Clock}
 use Rattle.calendar.specs.Date.{leap, monthLength}
 use Rattle.calendar.specs.Clock.{fullYear}
-use Rattle.registers.specs.Names.{at, SECONDS, MINUTES, HOURS, WEEKDAY, DATE, MONTH, YEAR}
-use Rattle.timekeeper.specs.Bcd.{digits, bcd, decimalTests}
+use Rattle.alarm.specs.declared.Field.{Field}
+use Rattle.registers.specs.Names.{at, SECONDS, MINUTES, HOURS, WEEKDAY, DATE, MONTH, YEAR, ALARM-MONTH, ALARM-DATE, ALARM-HOUR, ALARM-MINUTE, ALARM-SECOND, ALARM-WEEKDAY}
+use Rattle.registers.specs.Written.{written}
+use Rattle.timekeeper.specs.Bcd.{digits, bcd, decimalTests, decimal}
 use Rattle.timekeeper.specs.Clock.{fieldBytes, clockOf, rangeTests, lastDate, validCalendar, underB7, underB7B6, withClock}
+use Rattle.timekeeper.specs.Alarm.{fieldOf, alarmOf, RPT1, RPT2, RPT3, RPT4, RPT5, RPT6}
+use Rattle.timekeeper.specs.Commit.{accepted, refused, committed}
 
 pub clock-from : (rs : List ℕ) (century year month date weekday hour minute second : ℕ) → century ≡ at rs MONTH / 64 → year ≡ digits (at rs YEAR) → month ≡ digits (at rs MONTH % 64)
     → date ≡ digits (at rs DATE) → weekday ≡ digits (at rs WEEKDAY) → hour ≡ digits (at rs HOURS % 64) → minute ≡ digits (at rs MINUTES) → second ≡ digits (at rs SECONDS % 128)
@@ -32,3 +37,25 @@ pub with-from : (rs : List ℕ) (c : Clock) (s second minute h hour weekday date
 unfolding withClock
 with-from rs c s second minute h hour weekday date month year es e1 e2 eh e3 e4 e5 e6 e7 =
     λ i. at rs 0x00 ∷ (e1 ∙ ap (underB7 (at rs SECONDS)) es) i ∷ e2 i ∷ (e3 ∙ ap (underB7B6 (at rs HOURS)) eh) i ∷ e4 i ∷ e5 i ∷ (c .century % 4 * 64 + e6 i % 64) ∷ e7 i ∷ spell 0x08 8 rs
+
+pub field-decimal : (rpt : Bool) (b : ℕ) → decimal b ≡ true → record { any = rpt; value = digits b } ≡ fieldOf rpt b
+field-decimal rpt b e = λ i. record { any = rpt; value = on-true (digits b) 255 e i }
+
+pub field-other : (rpt : Bool) (b : ℕ) → decimal b ≡ false → record { any = rpt; value = 255 } ≡ fieldOf rpt b
+field-other rpt b e = λ i. record { any = rpt; value = on-false (digits b) 255 e i }
+
+pub alarm-from : (rs : List ℕ) (second minute hour date month weekday : Field) → second ≡ fieldOf (RPT1 rs) (at rs ALARM-SECOND % 128) → minute ≡ fieldOf (RPT2 rs) (at rs ALARM-MINUTE % 128)
+    → hour ≡ fieldOf (RPT3 rs) (at rs ALARM-HOUR % 64) → date ≡ fieldOf (RPT4 rs) (at rs ALARM-DATE % 64) → month ≡ fieldOf (RPT5 rs) (at rs ALARM-MONTH % 32)
+    → weekday ≡ fieldOf (RPT6 rs) (at rs ALARM-WEEKDAY / 16 % 8)
+    → record { second = second; minute = minute; hour = hour; date = date; month = month; weekday = weekday } ≡ alarmOf rs
+unfolding alarmOf
+alarm-from rs s n h d m w es en eh ed em ew = λ i. record { second = es i; minute = en i; hour = eh i; date = ed i; month = em i; weekday = ew i }
+
+module _ (rs : List ℕ) (a : ℕ) (bytes next : List ℕ) (v : Bool) (en : next ≡ written rs a bytes) (ev : v ≡ validCalendar next) where
+  pub commit-accepted : v ≡ true → accepted next ≡ committed rs a bytes
+  unfolding committed
+  commit-accepted e = ap accepted en ∙ on-true (accepted (written rs a bytes)) (refused rs) (ap validCalendar (sym en) ∙ sym ev ∙ e)
+
+  pub commit-refused : v ≡ false → refused rs ≡ committed rs a bytes
+  unfolding committed
+  commit-refused e = on-false (accepted (written rs a bytes)) (refused rs) (ap validCalendar (sym en) ∙ sym ev ∙ e)

@@ -1,2 +1,4 @@
 pub mod Bcd
 pub mod Clock
+pub mod Alarm
+pub mod Commit

@@ -4,6 +4,10 @@ ghost use Prim.Native.Nat.{_/_};
 ghost use Rattle.common.specs.Tests.{conj};
 ghost use Rattle.timekeeper.specs.Bcd.{digits, bcd, decimalTests};
 ghost use Rattle.timekeeper.specs.Clock.{fieldBytes, clockOf, rangeTests, validCalendar, underB7, underB7B6, withClock};
+ghost use Rattle.timekeeper.specs.Alarm.{fieldOf, alarmOf};
+ghost use Rattle.timekeeper.specs.Commit.{committed};
+use alarm::Alarm;
+use alarm::Field;
 use calendar::Clock;
 
 const SECONDS: usize = 0x01;
@@ -19,6 +23,24 @@ const DATE: usize = 0x05;
 const MONTH: usize = 0x06;
 
 const YEAR: usize = 0x07;
+
+const ALARM_MONTH: usize = 0x0A;
+
+const ALARM_DATE: usize = 0x0B;
+
+const ALARM_HOUR: usize = 0x0C;
+
+const ALARM_MINUTE: usize = 0x0D;
+
+const ALARM_SECOND: usize = 0x0E;
+
+const ALARM_WEEKDAY: usize = 0x0F;
+
+// What a write to the registers leaves, and its refusal number.
+pub struct Committed {
+    pub registers: [u8; 16],
+    pub refusal: u32,
+}
 
 // The number that a byte's two digits write.
 fn number(b: u8) -> u32
@@ -61,20 +83,27 @@ pub fn clock_of(registers: [u8; 16]) -> Clock
 fn decimal_fields(registers: [u8; 16]) -> bool
     ensures { λ r. ⌜ r ≡ conj (decimalTests (fieldBytes registers)) ⌝ }
 {
-    (registers[SECONDS] % 128 / 16 <= 9)
-        & (registers[SECONDS] % 128 % 16 <= 9)
-        & (registers[MINUTES] / 16 <= 9)
-        & (registers[MINUTES] % 16 <= 9)
-        & (registers[HOURS] % 64 / 16 <= 9)
-        & (registers[HOURS] % 64 % 16 <= 9)
-        & (registers[WEEKDAY] / 16 <= 9)
-        & (registers[WEEKDAY] % 16 <= 9)
-        & (registers[DATE] / 16 <= 9)
-        & (registers[DATE] % 16 <= 9)
-        & (registers[MONTH] % 64 / 16 <= 9)
-        & (registers[MONTH] % 64 % 16 <= 9)
-        & (registers[YEAR] / 16 <= 9)
-        & (registers[YEAR] % 16 <= 9)
+    let second = registers[SECONDS] % 128;
+    let minute = registers[MINUTES];
+    let hour = registers[HOURS] % 64;
+    let weekday = registers[WEEKDAY];
+    let date = registers[DATE];
+    let month = registers[MONTH] % 64;
+    let year = registers[YEAR];
+    (second / 16 <= 9)
+        & (second % 16 <= 9)
+        & (minute / 16 <= 9)
+        & (minute % 16 <= 9)
+        & (hour / 16 <= 9)
+        & (hour % 16 <= 9)
+        & (weekday / 16 <= 9)
+        & (weekday % 16 <= 9)
+        & (date / 16 <= 9)
+        & (date % 16 <= 9)
+        & (month / 16 <= 9)
+        & (month % 16 <= 9)
+        & (year / 16 <= 9)
+        & (year % 16 <= 9)
 }
 
 // Whether each field is in range, the date up to last.
@@ -146,4 +175,55 @@ pub fn with_clock(registers: [u8; 16], c: Clock) -> [u8; 16]
         registers[0x0E],
         registers[0x0F],
     ]
+}
+
+// An alarm field with its RPT bit.
+pub fn field(rpt: bool, b: u8) -> Field
+    ensures { λ r. ⌜ r ≡ fieldOf rpt b ⌝ }
+{
+    let value = (b / 16 * 10 + b % 16) as u32;
+    if (b / 16 <= 9) & (b % 16 <= 9) {
+        return Field { any: rpt, value };
+    }
+    Field {
+        any: rpt,
+        value: 255,
+    }
+}
+
+// The alarm that the registers hold.
+pub fn alarm_of(registers: [u8; 16]) -> Alarm
+    ensures { λ r. ⌜ r ≡ alarmOf registers ⌝ }
+{
+    let month = registers[ALARM_MONTH];
+    let date = registers[ALARM_DATE];
+    let hour = registers[ALARM_HOUR];
+    let minute = registers[ALARM_MINUTE];
+    let second = registers[ALARM_SECOND];
+    let weekday = registers[ALARM_WEEKDAY];
+    Alarm {
+        second: field(second / 128 % 2 == 1, second % 128),
+        minute: field(minute / 128 % 2 == 1, minute % 128),
+        hour: field(hour / 128 % 2 == 1, hour % 64),
+        date: field(date / 128 % 2 == 1, date % 64),
+        month: field(date / 64 % 2 == 1, month % 32),
+        weekday: field(hour / 64 % 2 == 1, weekday / 16 % 8),
+    }
+}
+
+// Command 50h: bytes from address a on, all or nothing, judged on the finished registers.
+pub fn commit(registers: [u8; 16], a: usize, bytes: &[u8]) -> Committed
+    ensures { λ r. ⌜ r ≡ committed registers a (now (bytes .entry)) ⌝ }
+{
+    let next = registers::write(registers, a, bytes);
+    if valid(next) {
+        return Committed {
+            registers: next,
+            refusal: 0,
+        };
+    }
+    Committed {
+        registers,
+        refusal: 9,
+    }
 }
