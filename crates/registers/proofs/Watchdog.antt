@@ -13,6 +13,6 @@ reading-8 = (refl, refl, refl)
 -- at most 31 minutes
 pub load-most : (b : ℕ) → (watchdogLoad b) .0 ≤ 29_760
 load-most b =
-    each-at (λ (n : ℕ). n ≤ 29_760) (BMB b * 1 ∷ BMB b * 4 ∷ BMB b * 16 ∷ BMB b * 64 ∷ BMB b * 960 ∷ 0 ∷ 0 ∷ 0 ∷ []) 0
+    each-at (λ (n : ℕ). n ≤ 29_760) (BMB b ∷ BMB b * 4 ∷ BMB b * 16 ∷ BMB b * 64 ∷ BMB b * 960 ∷ 0 ∷ 0 ∷ 0 ∷ []) 0
     (omega arith also omega arith also omega arith also omega arith also omega arith also omega arith also omega arith also omega arith also done)
     (omega arith) (RB b)

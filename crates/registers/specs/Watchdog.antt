@@ -14,4 +14,4 @@ BMB b = b / 4 % 32
 
 -- the count that a write of the byte b starts, by RB: BMB times 1, 4, 16, 64 or 960 sixteenths; else the watchdog is off
 abbrev pub watchdogLoad : ℕ → Sixteenths
-watchdogLoad b = record { 0 = getD (BMB b * 1 ∷ BMB b * 4 ∷ BMB b * 16 ∷ BMB b * 64 ∷ BMB b * 960 ∷ 0 ∷ 0 ∷ 0 ∷ []) (RB b) 0 }
+watchdogLoad b = record { 0 = getD (BMB b ∷ BMB b * 4 ∷ BMB b * 16 ∷ BMB b * 64 ∷ BMB b * 960 ∷ 0 ∷ 0 ∷ 0 ∷ []) (RB b) 0 }

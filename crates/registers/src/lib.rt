@@ -7,21 +7,36 @@ ghost use Rattle.registers.specs.Written.{kept, reservedClear, stored, w
 ghost use Rattle.registers.specs.Watchdog.{watchdogLoad};
 use units::Sixteenths;
 
-const SECONDS: usize = 0x01;
+// Addresses.
+pub const SECONDS: usize = 0x01;
 
-const MINUTES: usize = 0x02;
+pub const MINUTES: usize = 0x02;
 
-const WEEKDAY: usize = 0x04;
+pub const HOURS: usize = 0x03;
 
-const DATE: usize = 0x05;
+pub const WEEKDAY: usize = 0x04;
 
-const MONTH: usize = 0x06;
+pub const DATE: usize = 0x05;
 
-const CALIBRATION: usize = 0x08;
+pub const MONTH: usize = 0x06;
 
-const ALARM_MONTH: usize = 0x0A;
+pub const YEAR: usize = 0x07;
 
-const ALARM_WEEKDAY: usize = 0x0F;
+pub const CALIBRATION: usize = 0x08;
+
+pub const WATCHDOG: usize = 0x09;
+
+pub const ALARM_MONTH: usize = 0x0A;
+
+pub const ALARM_DATE: usize = 0x0B;
+
+pub const ALARM_HOUR: usize = 0x0C;
+
+pub const ALARM_MINUTE: usize = 0x0D;
+
+pub const ALARM_SECOND: usize = 0x0E;
+
+pub const ALARM_WEEKDAY: usize = 0x0F;
 
 // 01h b7: whether the oscillator is stopped.
 pub fn is_stopped(registers: [u8; 16]) -> bool
@@ -129,6 +144,6 @@ pub fn watchdog_load(b: u8) -> Sixteenths
 {
     let rb = (b / 128 * 4 + b % 4) as usize;
     let bmb = (b / 4 % 32) as u64;
-    let loads = [bmb * 1, bmb * 4, bmb * 16, bmb * 64, bmb * 960, 0, 0, 0];
+    let loads = [bmb, bmb * 4, bmb * 16, bmb * 64, bmb * 960, 0, 0, 0];
     Sixteenths(loads[rb])
 }

@@ -37,9 +37,6 @@ bcd-byte x = omega arith
 pub bcd-digits : (b : ℕ) → b / 16 ≤ 9 → b % 16 ≤ 9 → bcd (digits b) ≡ b
 bcd-digits b h k = omega arith
 
-pub digits-below : (b : ℕ) → b / 16 ≤ 9 → b % 16 ≤ 9 → digits b < 100
-digits-below b h k = omega arith
-
 -- ---- Bytes of which each nibble is at most 9
 
 module _ (bs : List ℕ) (h : conj (decimalTests bs) ≡ true) where

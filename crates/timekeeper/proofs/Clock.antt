@@ -55,9 +55,6 @@ module _ (rs : List ℕ) (h : validCalendar rs ≡ true) where
   range : (i : ℕ) → getD (rangeTests (clockOf rs) (lastDate (clockOf rs))) i true ≡ true
   range = each (rangeTests (clockOf rs) (lastDate (clockOf rs))) ranges
 
-  nibble : (i : ℕ) → getD (decimalTests (fieldBytes rs)) i true ≡ true
-  nibble = each (decimalTests (fieldBytes rs)) decimals
-
   century : at rs MONTH < 256 → (clockOf rs) .century ≤ 3
   unfolding clockOf
   century b = omega arith

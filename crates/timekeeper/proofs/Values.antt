@@ -38,8 +38,8 @@ unfolding withClock
 with-from rs c s second minute h hour weekday date month year es e1 e2 eh e3 e4 e5 e6 e7 =
     λ i. at rs 0x00 ∷ (e1 ∙ ap (underB7 (at rs SECONDS)) es) i ∷ e2 i ∷ (e3 ∙ ap (underB7B6 (at rs HOURS)) eh) i ∷ e4 i ∷ e5 i ∷ (c .century % 4 * 64 + e6 i % 64) ∷ e7 i ∷ spell 0x08 8 rs
 
-pub field-decimal : (rpt : Bool) (b : ℕ) → decimal b ≡ true → record { any = rpt; value = digits b } ≡ fieldOf rpt b
-field-decimal rpt b e = λ i. record { any = rpt; value = on-true (digits b) 255 e i }
+pub field-decimal : (rpt : Bool) (b x : ℕ) → x ≡ digits b → decimal b ≡ true → record { any = rpt; value = x } ≡ fieldOf rpt b
+field-decimal rpt b x ex e = λ i. record { any = rpt; value = (ex ∙ on-true (digits b) 255 e) i }
 
 pub field-other : (rpt : Bool) (b : ℕ) → decimal b ≡ false → record { any = rpt; value = 255 } ≡ fieldOf rpt b
 field-other rpt b e = λ i. record { any = rpt; value = on-false (digits b) 255 e i }

@@ -9,32 +9,19 @@ ghost use Rattle.timekeeper.specs.Commit.{committed};
 use alarm::Alarm;
 use alarm::Field;
 use calendar::Clock;
-
-const SECONDS: usize = 0x01;
-
-const MINUTES: usize = 0x02;
-
-const HOURS: usize = 0x03;
-
-const WEEKDAY: usize = 0x04;
-
-const DATE: usize = 0x05;
-
-const MONTH: usize = 0x06;
-
-const YEAR: usize = 0x07;
-
-const ALARM_MONTH: usize = 0x0A;
-
-const ALARM_DATE: usize = 0x0B;
-
-const ALARM_HOUR: usize = 0x0C;
-
-const ALARM_MINUTE: usize = 0x0D;
-
-const ALARM_SECOND: usize = 0x0E;
-
-const ALARM_WEEKDAY: usize = 0x0F;
+use registers::ALARM_DATE;
+use registers::ALARM_HOUR;
+use registers::ALARM_MINUTE;
+use registers::ALARM_MONTH;
+use registers::ALARM_SECOND;
+use registers::ALARM_WEEKDAY;
+use registers::DATE;
+use registers::HOURS;
+use registers::MINUTES;
+use registers::MONTH;
+use registers::SECONDS;
+use registers::WEEKDAY;
+use registers::YEAR;
 
 // What a write to the registers leaves, and its refusal number.
 pub struct Committed {
@@ -181,7 +168,7 @@ pub fn with_clock(registers: [u8; 16], c: Clock) -> [u8; 16]
 pub fn field(rpt: bool, b: u8) -> Field
     ensures { λ r. ⌜ r ≡ fieldOf rpt b ⌝ }
 {
-    let value = (b / 16 * 10 + b % 16) as u32;
+    let value = number(b);
     if (b / 16 <= 9) & (b % 16 <= 9) {
         return Field { any: rpt, value };
     }

@@ -4,20 +4,14 @@ use borrow.Author.Needs.{needs}
 use Rattle.timekeeper.proofs.field.Statement.{statement}
 use Rattle.timekeeper.proofs.field.Tie as tie
 
-mul-value : tie.Need-mul-value
-mul-value c = search needs
-
-add-value : tie.Need-add-value
-add-value c = search needs
-
-cast-value : tie.Need-cast-value
-cast-value c = search needs
+number-requires : tie.Need-number-requires
+number-requires c κs = search needs
 
 returns : tie.Need-returns
-returns c = field-decimal (c .before .args .rpt) (c .before .args .b) (c .if1 .taken)
+returns c = search (needs, field-decimal)
 
 returns-2 : tie.Need-returns-2
-returns-2 c = field-other (c .before .args .rpt) (c .before .args .b) (c .if1 .left)
+returns-2 c = search (needs, field-other)
 
 pub field-spec : {M : Type 1} → statement M
-field-spec = tie.close (tie.spec mul-value add-value cast-value returns returns-2)
+field-spec = tie.close (tie.spec number-requires returns returns-2)
