@@ -1,6 +1,6 @@
 -- Choice by a Bool: the library's `cond` by its cases. Assumes nothing.
 use mathlib.Core.Path.{_≡_, refl, ap}
-use mathlib.Core.Bool.{Bool, true, false, cond, _&&_, _||_, false≢true}
+use mathlib.Core.Bool.{Bool, true, false, cond, _&&_, _||_, true≢false, false≢true}
 use mathlib.Core.Logic.{_⊎_, inl, inr}
 
 module _ {A : Type 0} {b : Bool} (x y : A) where
@@ -9,6 +9,10 @@ module _ {A : Type 0} {b : Bool} (x y : A) where
 
   pub on-false : b ≡ false → y ≡ cond b x y
   on-false e = rw e refl
+
+  -- the answer behind a test that fails
+  pub past : {z : A} → b ≡ false → z ≡ y → z ≡ cond b x y
+  past e h = rw e h
 
 module _ {A : Type 0} where
   -- what holds of the answer chosen, from each case
@@ -40,3 +44,16 @@ and-both a b e f = λ i. e i && f i
 pub or-cases : (a b : Bool) → (a || b) ≡ true → (a ≡ true) ⊎ (b ≡ true)
 or-cases true b h = inl refl
 or-cases false b h = inr h
+
+pub neither-left : (a b : Bool) → (a || b) ≡ false → a ≡ false
+neither-left true b h = h
+neither-left false b h = refl
+
+pub neither-right : (a b : Bool) → (a || b) ≡ false → b ≡ false
+neither-right true b h = absurd (true≢false h)
+neither-right false b h = h
+
+-- not both, but the one: not the other
+pub not-other : (a b : Bool) → a ≡ true → (a && b) ≡ false → b ≡ false
+not-other true b e h = h
+not-other false b e h = absurd (false≢true e)

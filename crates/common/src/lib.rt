@@ -1,7 +1,8 @@
-// What every crate shares: a bit by its weight. The definitions and laws that all crates cite are in specs/ and proofs/.
+// What every crate shares: a bit by its weight, a byte by its place. The definitions and laws that all crates cite are in specs/ and proofs/.
 ghost use mathlib.Core.Path.{_≡_};
 ghost use mathlib.Core.Bool.{cond};
 ghost use Prim.Native.Nat.{_<_, _≤_};
+ghost use lib.ListN.{getD};
 ghost use Rattle.common.specs.Bits.{bitSet};
 
 // Whether the bit of this weight is set.
@@ -18,4 +19,11 @@ pub fn weight(on: bool, w: u8) -> u8
     ensures bound { λ r. ⌜ r ≤ w ⌝ }
 {
     if on { w } else { 0 }
+}
+
+// The byte at place i, or the other one where the bytes end before it.
+pub fn byte_or(bytes: &[u8], i: usize, other: u8) -> u8
+    ensures { λ r. ⌜ r ≡ getD (now (bytes .entry)) i other ⌝ }
+{
+    if i < bytes.len() { bytes[i] } else { other }
 }
