@@ -1,0 +1,59 @@
+-- The guard over many ticks: STBY stays low until the guard has run out, and is then high exactly with configuration b0. Assumes nothing.
+use Prim.Native.Nat.{ℕ, zero, suc, _-_, _*_, _<_}
+use mathlib.Core.Path.{_≡_, refl, ap, _∙_}
+use mathlib.Core.Bool.{Bool, false, cond, not, _&&_}
+use native.Mathlib.Omega.{arith}
+use borrow.Author.Tests.{eq-eqb, ne-eqb}
+use Rattle.controller.specs.declared.Core.{Core}
+use Rattle.controller.specs.declared.Setup.{Setup}
+use Rattle.controller.specs.State.{guardSleeps}
+use Rattle.controller.specs.Sound.{Sound}
+use Rattle.controller.specs.Tick.{ticked}
+use Rattle.common.specs.Bits.{bitSet}
+use Rattle.properties.specs.Causes.{rtcEvent, guardEnds}
+use Rattle.properties.specs.Ticks.{ticks}
+use Rattle.properties.proofs.Sound.{sound-ticked}
+use Rattle.properties.proofs.Steps.{setup-ticked}
+use Rattle.properties.proofs.Standby.{stby-ticked, guard-ticked}
+
+-- ---- One tick with STBY low
+
+module _ {w : ℕ} {c : Core} (h : Sound w c) (low : c .power .stby ≡ false) where
+  pub stby-low-ticked : (ticked c) .power .stby ≡ guardEnds c
+  stby-low-ticked = stby-ticked h ∙ ap (λ (b : Bool). cond b (not (rtcEvent c)) (guardEnds c)) low
+
+  pub guard-low-ticked : (ticked c) .power .guard .0 ≡ c .power .guard .0 - 1
+  guard-low-ticked = guard-ticked h ∙ ap (λ (b : Bool). cond b (cond (rtcEvent c) (16 * c .setup .guardvalue .0) 0) (c .power .guard .0) - 1) low
+
+-- ---- Many ticks
+
+module _ {w : ℕ} {c : Core} (h : Sound w c) where
+  pub sound-ticks : (n : ℕ) → Sound w (ticks n c)
+  unfolding ticks
+  sound-ticks zero = h
+  sound-ticks (suc n) = sound-ticked (sound-ticks n)
+
+  pub setup-ticks : (n : ℕ) → (ticks n c) .setup ≡ c .setup
+  unfolding ticks
+  setup-ticks zero = refl
+  setup-ticks (suc n) = setup-ticked (ticks n c) (sound-ticks n .rtc .sixteenths) ∙ setup-ticks n
+
+  module _ (low : c .power .stby ≡ false) where
+    -- while the guard runs
+    pub guard-runs : (n : ℕ) → n < c .power .guard .0 → ((ticks n c) .power .stby ≡ false) × ((ticks n c) .power .guard .0 ≡ c .power .guard .0 - n)
+    unfolding ticks guardEnds
+    guard-runs zero l = (low, omega arith)
+    guard-runs (suc n) l =
+        let before = guard-runs n (omega arith) in (
+          stby-low-ticked (sound-ticks n) (before .0) ∙ ap (λ (b : Bool). b && guardSleeps (ticks n c)) (ne-eqb ((ticks n c) .power .guard .0) 1 (λ e. omega (arith, before .1))),
+          omega (arith, guard-low-ticked (sound-ticks n) (before .0), before .1),
+        )
+
+    -- the tick in which it runs out
+    pub guard-out : (n : ℕ) → c .power .guard .0 ≡ suc n → (ticks (suc n) c) .power .stby ≡ guardSleeps c
+    unfolding ticks guardEnds
+    guard-out n e =
+        let before = guard-runs n (omega arith) in
+        stby-low-ticked (sound-ticks n) (before .0)
+        ∙ ap (λ (b : Bool). b && guardSleeps (ticks n c)) (eq-eqb ((ticks n c) .power .guard .0) 1 (omega (arith, before .1)))
+        ∙ ap (λ (s : Setup). bitSet (s .configuration) 1) (setup-ticks n)
