@@ -1,0 +1,5 @@
+pub mod Segments
+pub mod Faces
+pub mod Shown
+pub mod Pins
+pub mod Examples

@@ -1,0 +1,5 @@
+pub mod Font
+pub mod Hours
+pub mod Face
+pub mod Shown
+pub mod Lines
