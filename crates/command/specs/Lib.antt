@@ -1,0 +1,4 @@
+pub mod Codes
+pub mod Refusals
+pub mod Decode
+pub mod Holds
