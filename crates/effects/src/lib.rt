@@ -1,0 +1,153 @@
+// What commands make of the state that both panel kinds share.
+ghost use mathlib.Core.Path.{_≡_};
+ghost use mathlib.Core.Bool.{cond};
+ghost use Rattle.effects.specs.Configure.{configured, maskSet, guardReloaded};
+ghost use Rattle.effects.specs.Write.{touched, calendarTouched, registersAnswer};
+ghost use Rattle.effects.specs.Clear.{storeCleared, remoteCleared, interruptsCleared};
+use controller::Core;
+use controller::Remote;
+use controller::Setup;
+use registers::WATCHDOG;
+use units::Seconds;
+use units::Sixteenths;
+
+// What a write to the registers leaves: the state, and the number 0 or 9.
+pub struct Written {
+    pub core: Core,
+    pub refusal: u32,
+}
+
+// Whether one of n data bytes from address a on goes to address x.
+pub fn touches(a: usize, n: usize, x: usize) -> bool
+    ensures { λ r. ⌜ r ≡ touched a n x ⌝ }
+{
+    if x < a {
+        return false;
+    }
+    x - a < n
+}
+
+// Whether one of them goes to a calendar register 01h..07h.
+fn touches_calendar(a: usize, n: usize) -> bool
+    ensures { λ r. ⌜ r ≡ calendarTouched a n ⌝ }
+{
+    touches(a, n, 1)
+        | touches(a, n, 2)
+        | touches(a, n, 3)
+        | touches(a, n, 4)
+        | touches(a, n, 5)
+        | touches(a, n, 6)
+        | touches(a, n, 7)
+}
+
+// A count that is replaced where its registers were touched.
+fn replaced(touched: bool, new: Sixteenths, old: Sixteenths) -> Sixteenths
+    ensures { λ r. ⌜ r ≡ cond touched new old ⌝ }
+{
+    if touched { new } else { old }
+}
+
+// 00 group: the setup is set and the guard loads 16 times its value.
+pub fn configure(mut c: Core, configuration: u8, b: u8) -> Core
+    ensures { λ r. ⌜ r ≡ configured configuration b c ⌝ }
+{
+    let value = Seconds((b % 16) as u32);
+    let load = units::in_sixteenths(value);
+    let setup = Setup {
+        configuration,
+        protocol: b / 16,
+        guardvalue: value,
+    };
+    let mut power = c.power;
+    power.guard = load;
+    c.setup = setup;
+    c.power = power;
+    c
+}
+
+// C2h: a running guard loads again.
+pub fn reload_guard(mut c: Core) -> Core
+    ensures { λ r. ⌜ r ≡ guardReloaded c ⌝ }
+{
+    if c.power.guard.0 == 0 {
+        return c;
+    }
+    let value = c.setup.guardvalue;
+    let load = units::in_sixteenths(value);
+    let mut power = c.power;
+    power.guard = load;
+    c.power = power;
+    c
+}
+
+// 61h clears the key store.
+pub fn clear_store(mut c: Core) -> Core
+    ensures { λ r. ⌜ r ≡ storeCleared c ⌝ }
+{
+    let mut keys = c.keys;
+    keys.store = 0;
+    c.keys = keys;
+    c
+}
+
+// 62h clears the remote key.
+pub fn clear_remote(mut c: Core) -> Core
+    ensures { λ r. ⌜ r ≡ remoteCleared c ⌝ }
+{
+    let none = Remote {
+        fresh: 0,
+        address: 0,
+        command: 0,
+    };
+    c.remote = none;
+    c
+}
+
+// 63h clears the interrupt byte and the flags.
+pub fn clear_interrupts(mut c: Core) -> Core
+    ensures { λ r. ⌜ r ≡ interruptsCleared c ⌝ }
+{
+    let mut rtc = c.rtc;
+    rtc.flags = 0;
+    c.rtc = rtc;
+    c.interrupt = 0;
+    c
+}
+
+// A0h: the hot-key mask.
+pub fn set_mask(mut c: Core, low: u8, high: u8) -> Core
+    ensures { λ r. ⌜ r ≡ maskSet low high c ⌝ }
+{
+    let mut keys = c.keys;
+    keys.mask = (low as u32) + 256 * (high as u32);
+    c.keys = keys;
+    c
+}
+
+// 50h: data go to the registers from address a on, all or nothing.
+pub fn write_registers(mut c: Core, a: usize, bytes: &[u8]) -> Written
+    ensures { λ r. ⌜ r ≡ registersAnswer a (now (bytes .entry)) c ⌝ }
+{
+    let mut rtc = c.rtc;
+    let old = rtc.registers;
+    let committed = timekeeper::commit(old, a, bytes);
+    if committed.refusal != 0 {
+        return Written {
+            core: c,
+            refusal: committed.refusal,
+        };
+    }
+    let new = committed.registers;
+    let load = registers::watchdog_load(new[WATCHDOG]);
+    let none = Sixteenths(0);
+    let sixteenths = rtc.sixteenths;
+    let watchdog = rtc.watchdog;
+    rtc.registers = new;
+    rtc.sixteenths = replaced(touches_calendar(a, bytes.len()), none, sixteenths);
+    rtc.watchdog = replaced(touches(a, bytes.len(), WATCHDOG), load, watchdog);
+    c.rtc = rtc;
+    Written {
+        core: c,
+        refusal: 0,
+    }
+}

@@ -1,0 +1,5 @@
+pub mod State
+pub mod PowerUp
+pub mod Display
+pub mod Read
+pub mod Execute
