@@ -1,0 +1,5 @@
+mod Parts
+mod Copy
+pub mod Numbers
+pub mod Laws
+pub mod Bytes

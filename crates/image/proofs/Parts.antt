@@ -1,0 +1,38 @@
+-- The state in an image and the image of a state, put together from their parts. Assumes nothing.
+use Prim.Native.Nat.{ℕ}
+use mathlib.Core.Path.{_≡_, ap, _∙_}
+use mathlib.Core.Bool.{Bool}
+use mathlib.Core.List.{List}
+use Rattle.common.specs.Bits.{bitSet}
+use Rattle.units.specs.declared.Sixteenths.{Sixteenths}
+use Rattle.controller.specs.declared.Core.{Core}
+use Rattle.controller.specs.declared.Rtc.{Rtc}
+use Rattle.controller.specs.declared.Power.{Power}
+use Rattle.controller.specs.declared.Setup.{Setup}
+use Rattle.controller.specs.declared.Keys.{Keys}
+use Rattle.controller.specs.declared.Remote.{Remote}
+use Rattle.controller.specs.State.{rtc, power, keys, sixteenths}
+use Rattle.display.specs.declared.Display.{Display}
+use Rattle.panel.specs.declared.Panel.{Panel}
+use Rattle.image.specs.Layout as at
+use Rattle.image.specs.Layout.{byteAt, wordAt, READY, WAKE-UP, STBY}
+use Rattle.image.specs.Image.{registersIn, rtcIn, powerIn, setupIn, keysIn, remoteIn, coreIn, displayIn, decoded, linesByte, fieldBytes, laidOut, encoded}
+
+module _ (l : List ℕ) where
+  pub keys-in : (m s a t : ℕ) → m ≡ wordAt l at.MASK → s ≡ wordAt l at.SAMPLE → a ≡ wordAt l at.ACCEPTED → t ≡ wordAt l at.STORE → keys m s a t ≡ keysIn l
+  keys-in m s a t em es ea et = λ i. keys (em i) (es i) (ea i) (et i)
+
+  pub power-in : (r w s : Bool) (g : Sixteenths) → g .0 ≡ wordAt l at.GUARD → r ≡ bitSet (byteAt l at.LINES) READY → w ≡ bitSet (byteAt l at.LINES) WAKE-UP → s ≡ bitSet (byteAt l at.LINES) STBY → power r w s g ≡ powerIn l
+  power-in r w s g eg er ew es = λ i. power (er i) (ew i) (es i) (sixteenths (eg i))
+
+  pub rtc-in : (rs : List ℕ) (w : Sixteenths) → rs ≡ registersIn l → w .0 ≡ wordAt l at.WATCHDOG → rtc rs (sixteenths (byteAt l at.SIXTEENTHS)) (byteAt l at.FLAGS) w ≡ rtcIn l
+  rtc-in rs w er ew = λ i. rtc (er i) (sixteenths (byteAt l at.SIXTEENTHS)) (byteAt l at.FLAGS) (sixteenths (ew i))
+
+  pub core-in : (c : Core) → c .rtc ≡ rtcIn l → c .power ≡ powerIn l → c .setup ≡ setupIn l → c .keys ≡ keysIn l → c .remote ≡ remoteIn l → c .interrupt ≡ byteAt l at.INTERRUPT → c ≡ coreIn l
+  core-in c er ep es ek em ei = λ i. record { rtc = er i; power = ep i; setup = es i; keys = ek i; remote = em i; interrupt = ei i }
+
+  pub panel-in : (p : Panel) → p .core ≡ coreIn l → p .display ≡ displayIn l → p ≡ decoded l
+  panel-in p ec ed = λ i. record { core = ec i; display = ed i }
+
+pub image-of : (p : Panel) (lines : ℕ) (fields l : List ℕ) → lines ≡ linesByte (p .core .power) → fields ≡ fieldBytes p lines → l ≡ laidOut (p .core .rtc .registers) fields → l ≡ encoded p
+image-of p lines fields l en ef e = e ∙ ap (laidOut (p .core .rtc .registers)) (ef ∙ ap (fieldBytes p) en)

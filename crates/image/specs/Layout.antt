@@ -1,0 +1,99 @@
+-- Where things stand in the image (document 01, "The image": the table).
+use Prim.Native.Nat.{ℕ, _+_, _*_, _/_, _%_}
+use mathlib.Core.List.{List, [], _∷_}
+use lib.ListN.{getD}
+
+-- ---- Bytes
+
+abbrev pub SIZE : ℕ
+SIZE = 64
+
+abbrev pub REGISTERS : ℕ
+REGISTERS = 0
+
+abbrev pub SIXTEENTHS : ℕ
+SIXTEENTHS = 16
+
+abbrev pub FLAGS : ℕ
+FLAGS = 17
+
+abbrev pub INTERRUPT : ℕ
+INTERRUPT = 18
+
+abbrev pub LINES : ℕ
+LINES = 19
+
+abbrev pub CONFIGURATION : ℕ
+CONFIGURATION = 20
+
+abbrev pub PROTOCOL : ℕ
+PROTOCOL = 21
+
+abbrev pub GUARD : ℕ
+GUARD = 22
+
+abbrev pub WATCHDOG : ℕ
+WATCHDOG = 24
+
+abbrev pub MASK : ℕ
+MASK = 26
+
+abbrev pub SAMPLE : ℕ
+SAMPLE = 28
+
+abbrev pub ACCEPTED : ℕ
+ACCEPTED = 30
+
+abbrev pub STORE : ℕ
+STORE = 32
+
+abbrev pub FRESH : ℕ
+FRESH = 34
+
+abbrev pub ADDRESS : ℕ
+ADDRESS = 35
+
+abbrev pub COMMAND : ℕ
+COMMAND = 36
+
+abbrev pub DIGITS : ℕ
+DIGITS = 37
+
+abbrev pub CONTROL : ℕ
+CONTROL = 38
+
+abbrev pub DIGIT-BYTES : ℕ
+DIGIT-BYTES = 39
+
+abbrev pub TAIL : ℕ
+TAIL = 44
+
+-- ---- Bits of byte 19, by their weights
+
+abbrev pub READY : ℕ
+READY = 1
+
+abbrev pub WAKE-UP : ℕ
+WAKE-UP = 2
+
+abbrev pub STBY : ℕ
+STBY = 4
+
+-- ---- Numbers
+
+abbrev pub byteAt : List ℕ → ℕ → ℕ
+byteAt l at = getD l at 0
+
+-- the number in two bytes, low byte first
+abbrev pub wordAt : List ℕ → ℕ → ℕ
+wordAt l at = byteAt l at + 256 * byteAt l (at + 1)
+
+-- the two bytes of a number
+abbrev pub low : ℕ → ℕ
+low n = n % 256
+
+abbrev pub high : ℕ → ℕ
+high n = n / 256 % 256
+
+abbrev pub wordBytes : ℕ → List ℕ
+wordBytes n = low n ∷ high n ∷ []

@@ -1,0 +1,3 @@
+mod Zero
+mod Tests
+pub mod Laws

@@ -1,0 +1,112 @@
+// Which images are valid.
+ghost use mathlib.Core.Path.{_≡_};
+ghost use Rattle.common.specs.Tests.{conj};
+ghost use Rattle.validity.specs.Valid.{allZero, unnamedTests, rangeTests, guardWithin, watchdogWithin, stateTests, isValid};
+use controller::Core;
+use panel::Panel;
+
+const SIZE: usize = 64;
+
+const FLAGS: usize = 17;
+
+const LINES: usize = 19;
+
+const CONFIGURATION: usize = 20;
+
+const PROTOCOL: usize = 21;
+
+const CONTROL: usize = 38;
+
+const TAIL: usize = 44;
+
+// Register 09h.
+const WATCHDOG: usize = 0x09;
+
+// Whether every byte is 0.
+fn is_zero(s: &[u8]) -> bool
+    ensures { λ r. ⌜ r ≡ allZero (now (s .entry)) ⌝ }
+{
+    let mut i = 0;
+    while i < s.len() {
+        if s[i] != 0 {
+            return false;
+        }
+        i += 1;
+    }
+    true
+}
+
+// Whether the bits without a name are 0.
+fn unnamed_clear(image: [u8; 64]) -> bool
+    ensures { λ r. ⌜ r ≡ conj (unnamedTests image) ⌝ }
+{
+    (image[FLAGS] < 4)
+        & (image[LINES] < 8)
+        & (image[CONFIGURATION] < 64)
+        & (image[CONFIGURATION] / 16 % 2 == 0)
+        & (image[PROTOCOL] < 128)
+        & (image[CONTROL] < 32)
+}
+
+// Whether the sixteenths, the remote key's fresh and the digits are in range.
+fn in_ranges(p: Panel) -> bool
+    ensures { λ r. ⌜ r ≡ conj (rangeTests p) ⌝ }
+{
+    let core = p.core;
+    let display = p.display;
+    (core.rtc.sixteenths.0 < 16)
+        & (core.remote.fresh < 2)
+        & (1 <= display.digits)
+        & (display.digits <= 5)
+}
+
+// Whether guard left is at most what the guard loads.
+fn guard_within(core: Core) -> bool
+    ensures { λ r. ⌜ r ≡ guardWithin core ⌝ }
+{
+    let value = core.setup.guardvalue;
+    let load = units::in_sixteenths(value);
+    core.power.guard.0 <= load.0
+}
+
+// Whether watchdog left is at most what register 09h loads.
+fn watchdog_within(core: Core) -> bool
+    ensures { λ r. ⌜ r ≡ watchdogWithin core ⌝ }
+{
+    let rtc = core.rtc;
+    let registers = rtc.registers;
+    let load = registers::watchdog_load(registers[WATCHDOG]);
+    rtc.watchdog.0 <= load.0
+}
+
+// Whether the state is one that a valid image holds.
+fn is_sound(p: Panel) -> bool
+    ensures { λ r. ⌜ r ≡ conj (stateTests p) ⌝ }
+{
+    let core = p.core;
+    let rtc = core.rtc;
+    let registers = rtc.registers;
+    let protocol = core.setup.protocol;
+    let remote = core.remote;
+    timekeeper::valid(registers)
+        & registers::reserved_clear(registers)
+        & in_ranges(p)
+        & ((protocol == 0) | (protocol == 2) | (protocol == 4))
+        & guard_within(core)
+        & (!core.power.stby | (core.power.guard.0 == 0))
+        & watchdog_within(core)
+        & (remote.address == 0)
+        & ((remote.fresh != 0) | (remote.command == 0))
+}
+
+// Whether the bytes are a valid image.
+pub fn is_valid(image: &[u8]) -> bool
+    ensures { λ r. ⌜ r ≡ isValid (now (image .entry)) ⌝ }
+{
+    if image.len() != SIZE {
+        return false;
+    }
+    let a = image::load(image);
+    let p = image::decode(a);
+    unnamed_clear(a) & is_zero(&image[TAIL..]) & is_sound(p)
+}
