@@ -38,3 +38,10 @@ zero-none (g ∷ gs) h e =
   where
     positive : (g : Ground) (gs : List Ground) → numbered (g ∷ gs) ≡ true → g .number ≡ 0 → ⊥
     positive g gs h z = omega (arith, ltb-true 0 (g .number) (and-left (ltb 0 (g .number)) (numbered gs) h))
+
+-- a ground that holds hides the rest of the list
+pub ground-before : (gs hs : List Ground) → (firstGround gs ≡ 0 → ⊥) → firstGround (gs ++ hs) ≡ firstGround gs
+ground-before [] hs n = absurd (n refl)
+ground-before (g ∷ gs) hs n =
+    by-cases (firstGround (g ∷ (gs ++ hs)) ≡ firstGround (g ∷ gs)) (g .holds) (λ t. rw t refl)
+    (λ f. rw f (ground-before gs hs (λ z. n (rw f z))))

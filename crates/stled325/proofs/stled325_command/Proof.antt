@@ -1,0 +1,86 @@
+-- `stled325::stled325_command` meets its contract.
+use borrow.Author.Needs.{needs}
+use Rattle.stled325.proofs.Calls.{sized, call-refused}
+use Rattle.stled325.proofs.Commands.{decode-refused, write-refused, command-done}
+use Rattle.stled325.proofs.stled325_command.Statement.{statement}
+use Rattle.stled325.proofs.stled325_command.Tie as tie
+
+is-valid-requires : tie.Need-is-valid-requires
+is-valid-requires c κs = search needs
+
+same-length : tie.Need-same-length
+same-length c = search needs
+
+returns : tie.Need-returns
+returns c = search (needs, call-refused)
+
+panel-in-requires : tie.Need-panel-in-requires
+panel-in-requires c κs = search (needs, sized)
+
+decode-requires : tie.Need-decode-requires
+decode-requires c κs = search needs
+
+enum-known-decoded : tie.Need-enum-known-decoded
+enum-known-decoded c = search needs
+
+enum-told : tie.Need-enum-told
+enum-told c = search needs
+
+number-requires : tie.Need-number-requires
+number-requires c κs = search needs
+
+same-length-2 : tie.Need-same-length-2
+same-length-2 c = search needs
+
+returns-2 : tie.Need-returns-2
+returns-2 c = search (needs, decode-refused)
+
+execute-requires : tie.Need-execute-requires
+execute-requires c κs = search needs
+
+same-length-3 : tie.Need-same-length-3
+same-length-3 c = search needs
+
+returns-3 : tie.Need-returns-3
+returns-3 c = search (needs, write-refused)
+
+reply-requires : tie.Need-reply-requires
+reply-requires c κs = search needs
+
+store-requires : tie.Need-store-requires
+store-requires c κs =
+    let t = c .before .before .before .before .before .before .before .before .before .before .before .before .before .before .before in sized _ _ (t .before .is-valid .ensures) (t .if1 .left)
+
+same-length-4 : tie.Need-same-length-4
+same-length-4 c = search needs
+
+same-length-5 : tie.Need-same-length-5
+same-length-5 c = search needs
+
+returns-4 : tie.Need-returns-4
+returns-4 c =
+    let t = c .before .before .before .before .before .before .before .before .before .before .before .before .before .before .before .before in
+    command-done _ _ (t .before .before .before .is-valid .ensures) (t .before .before .if1 .left) _ (t .panel-in .ensures) _ _ _ (c .before .before .before .before .before .before .before .before .before .before .before .before .before .before .before .decode .ensures) _
+    (c .before .before .before .before .before .before .before .before .before .before .before .before .before .decoded .given .1) _ (c .before .before .before .before .before .before .before .before .before .before .before .execute .ensures) (c .before .before .before .before .before .before .before .before .before .if2 .left) _ _ (c .before .before .store .ensures) (c .before .before .before .before .before .before .reply .ensures)
+
+pub stled325-command-spec : {M : Type 1} → statement M
+stled325-command-spec =
+    tie.close
+    (tie.spec is-valid-requires
+    same-length
+    returns
+    panel-in-requires
+    decode-requires
+    enum-known-decoded
+    enum-told
+    number-requires
+    same-length-2
+    returns-2
+    execute-requires
+    same-length-3
+    returns-3
+    reply-requires
+    store-requires
+    same-length-4
+    same-length-5
+    returns-4)

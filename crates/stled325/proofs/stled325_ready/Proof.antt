@@ -1,0 +1,45 @@
+-- `stled325::stled325_ready` meets its contract.
+use borrow.Author.Needs.{needs}
+use Rattle.stled325.proofs.Calls.{sized, call-refused, event-done}
+use Rattle.stled325.proofs.stled325_ready.Statement.{statement}
+use Rattle.stled325.proofs.stled325_ready.Tie as tie
+
+is-valid-requires : tie.Need-is-valid-requires
+is-valid-requires c κs = search needs
+
+same-length : tie.Need-same-length
+same-length c = search needs
+
+returns : tie.Need-returns
+returns c = search (needs, call-refused)
+
+panel-in-requires : tie.Need-panel-in-requires
+panel-in-requires c κs = search (needs, sized)
+
+set-ready-requires : tie.Need-set-ready-requires
+set-ready-requires c κs = search needs
+
+with-core-requires : tie.Need-with-core-requires
+with-core-requires c κs = search needs
+
+store-requires : tie.Need-store-requires
+store-requires c κs = search (needs, sized)
+
+same-length-2 : tie.Need-same-length-2
+same-length-2 c = search needs
+
+returns-2 : tie.Need-returns-2
+returns-2 c = search (needs, event-done)
+
+pub stled325-ready-spec : {M : Type 1} → statement M
+stled325-ready-spec =
+    tie.close
+    (tie.spec is-valid-requires
+    same-length
+    returns
+    panel-in-requires
+    set-ready-requires
+    with-core-requires
+    store-requires
+    same-length-2
+    returns-2)

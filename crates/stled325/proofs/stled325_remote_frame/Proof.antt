@@ -1,0 +1,73 @@
+-- `stled325::stled325_remote_frame` meets its contract.
+use borrow.Author.Needs.{needs}
+use Rattle.stled325.proofs.Calls.{sized, call-refused, frame-refused, frame-done}
+use Rattle.stled325.proofs.stled325_remote_frame.Statement.{statement}
+use Rattle.stled325.proofs.stled325_remote_frame.Tie as tie
+
+is-valid-requires : tie.Need-is-valid-requires
+is-valid-requires c κs = search needs
+
+same-length : tie.Need-same-length
+same-length c = search needs
+
+returns : tie.Need-returns
+returns c = search (needs, call-refused)
+
+panel-in-requires : tie.Need-panel-in-requires
+panel-in-requires c κs = search (needs, sized)
+
+key-requires : tie.Need-key-requires
+key-requires c κs = search needs
+
+enum-known-received : tie.Need-enum-known-received
+enum-known-received c = search needs
+
+enum-told : tie.Need-enum-told
+enum-told c = search needs
+
+refusal-requires : tie.Need-refusal-requires
+refusal-requires c κs = search needs
+
+same-length-2 : tie.Need-same-length-2
+same-length-2 c = search needs
+
+returns-2 : tie.Need-returns-2
+returns-2 c = search (needs, frame-refused)
+
+receive-key-requires : tie.Need-receive-key-requires
+receive-key-requires c κs = search needs
+
+with-core-requires : tie.Need-with-core-requires
+with-core-requires c κs = search needs
+
+store-requires : tie.Need-store-requires
+store-requires c κs =
+    let t = c .before .before .before .before .before .before .before .before .before .before in sized _ _ (t .before .is-valid .ensures) (t .if1 .left)
+
+same-length-3 : tie.Need-same-length-3
+same-length-3 c = search needs
+
+returns-3 : tie.Need-returns-3
+returns-3 c =
+    let t = c .before .before .before .before .before .before .before .before .before .before .before in
+    frame-done _ _ (t .before .before .before .is-valid .ensures) (t .before .before .if1 .left) _ (t .panel-in .ensures) _ _ (c .before .before .before .before .before .before .before .before .before .key .ensures) _ _
+    (c .before .before .before .before .before .before .before .received .given .1) _ _ _ (c .before .before .before .before .receive-key .ensures) (c .before .before .before .with-core .ensures) (c .before .before .store .ensures)
+
+pub stled325-remote-frame-spec : {M : Type 1} → statement M
+stled325-remote-frame-spec =
+    tie.close
+    (tie.spec is-valid-requires
+    same-length
+    returns
+    panel-in-requires
+    key-requires
+    enum-known-received
+    enum-told
+    refusal-requires
+    same-length-2
+    returns-2
+    receive-key-requires
+    with-core-requires
+    store-requires
+    same-length-3
+    returns-3)

@@ -1,0 +1,45 @@
+-- `stled325::stled325_show` meets its contract.
+use borrow.Author.Needs.{needs}
+use Rattle.stled325.proofs.Calls.{sized, call-refused, view-refused, show-done}
+use Rattle.stled325.proofs.stled325_show.Statement.{statement}
+use Rattle.stled325.proofs.stled325_show.Tie as tie
+
+is-valid-requires : tie.Need-is-valid-requires
+is-valid-requires c κs = search needs
+
+returns : tie.Need-returns
+returns c = search (needs, call-refused)
+
+returns-2 : tie.Need-returns-2
+returns-2 c = search (needs, view-refused)
+
+panel-in-requires : tie.Need-panel-in-requires
+panel-in-requires c κs = search (needs, sized)
+
+show-requires : tie.Need-show-requires
+show-requires c κs = search needs
+
+slice-aggregate-copy : tie.Need-slice-aggregate-copy
+slice-aggregate-copy c = search needs
+
+copy-requires : tie.Need-copy-requires
+copy-requires c κs = search needs
+
+same-length : tie.Need-same-length
+same-length c = search needs
+
+returns-3 : tie.Need-returns-3
+returns-3 c = search (needs, show-done)
+
+pub stled325-show-spec : {M : Type 1} → statement M
+stled325-show-spec =
+    tie.close
+    (tie.spec is-valid-requires
+    returns
+    returns-2
+    panel-in-requires
+    show-requires
+    slice-aggregate-copy
+    copy-requires
+    same-length
+    returns-3)

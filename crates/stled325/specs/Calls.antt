@@ -1,0 +1,97 @@
+-- The calls but the command (document 01, "Events", "Show", "Lines"), each from the image and the output that it is given.
+use Prim.Native.Nat.{ℕ}
+use mathlib.Core.Bool.{Bool, true, false, not}
+use mathlib.Core.List.{List, [], _∷_}
+use lib.Dec.{eqb}
+use lib.ListN.{length}
+use Rattle.common.specs.Grounds.{Ground, ground}
+use Rattle.remote.specs.declared.Received.{Received}
+use Rattle.remote.specs.declared.Received.the-variants.{Key, NoKey}
+use Rattle.remote.specs.Frame.{keyOf}
+use Rattle.controller.specs.declared.Core.{Core}
+use Rattle.controller.specs.Tick.{ticked}
+use Rattle.controller.specs.Keys.{sampled}
+use Rattle.controller.specs.Remote.{keyed}
+use Rattle.controller.specs.Pins.{readySet, wakeUpSet}
+use Rattle.display.specs.Shown.{shown}
+use Rattle.display.specs.Lines.{linesOf}
+use Rattle.panel.specs.declared.Panel.{Panel}
+use Rattle.panel.specs.State.{onCore}
+use Rattle.panel.specs.PowerUp.{panelPoweredUp}
+use Rattle.image.specs.Layout.{SIZE}
+use Rattle.image.specs.Image.{decoded, encoded}
+use Rattle.stled325.specs.Outcome.{Outcome, decided, invalid}
+
+-- ---- Power-up takes any 64 bytes
+
+abbrev pub powerUpGrounds : List ℕ → List Ground
+powerUpGrounds l = ground 1 (not (eqb (length l) SIZE)) ∷ []
+
+abbrev pub powerUpCall : List ℕ → Outcome
+powerUpCall l = decided (powerUpGrounds l) l [] (encoded panelPoweredUp) []
+
+-- ---- Events that a valid image alone allows
+
+abbrev pub eventGrounds : List ℕ → List Ground
+eventGrounds l = invalid l ∷ []
+
+-- the image after an event of the shared state
+abbrev pub imageAfter : (Core → Core) → List ℕ → List ℕ
+imageAfter event l = encoded (onCore event (decoded l))
+
+abbrev pub eventCall : (Core → Core) → List ℕ → Outcome
+eventCall event l = decided (eventGrounds l) l [] (imageAfter event l) []
+
+abbrev pub tickCall : List ℕ → Outcome
+tickCall l = eventCall ticked l
+
+abbrev pub sampleCall : List ℕ → ℕ → Outcome
+sampleCall l sample = eventCall (λ c. sampled c sample) l
+
+-- a pin's level: 0 low and any other number high
+abbrev pub high : ℕ → Bool
+high level = not (eqb level 0)
+
+abbrev pub readyCall : List ℕ → ℕ → Outcome
+readyCall l level = eventCall (λ c. readySet c (high level)) l
+
+abbrev pub wakeUpCall : List ℕ → ℕ → Outcome
+wakeUpCall l level = eventCall (λ c. wakeUpSet c (high level)) l
+
+-- ---- Remote frames
+
+-- the key that the frame is, in the set protocol
+abbrev pub received : List ℕ → ℕ → Received
+received l frame = keyOf (decoded l .core .setup .protocol) frame
+
+abbrev pub isNoKey : Received → Bool
+isNoKey (Key address command) = false
+isNoKey NoKey = true
+
+abbrev pub keyedBy : Received → Core → Core
+keyedBy (Key address command) c = keyed c address command
+keyedBy NoKey c = c
+
+abbrev pub frameGrounds : List ℕ → ℕ → List Ground
+frameGrounds l frame = invalid l ∷ ground 11 (isNoKey (received l frame)) ∷ []
+
+abbrev pub frameCall : List ℕ → ℕ → Outcome
+frameCall l frame = decided (frameGrounds l frame) l [] (imageAfter (keyedBy (received l frame)) l) []
+
+-- ---- Show and lines leave the image as it is
+
+-- ground 12: the buffer has not the length asked for
+abbrev pub viewGrounds : ℕ → List ℕ → List ℕ → List Ground
+viewGrounds size l o = invalid l ∷ ground 12 (not (eqb (length o) size)) ∷ []
+
+abbrev pub shownOf : Panel → List ℕ
+shownOf p = shown (p .core .rtc .registers) (p .core .setup .configuration) (p .core .power .stby) (p .display)
+
+abbrev pub showCall : List ℕ → List ℕ → Outcome
+showCall l o = decided (viewGrounds 5 l o) l o l (shownOf (decoded l))
+
+abbrev pub linesIn : Core → List ℕ
+linesIn c = linesOf (c .power .ready) (c .power .stby) (c .interrupt) ∷ []
+
+abbrev pub linesCall : List ℕ → List ℕ → Outcome
+linesCall l o = decided (viewGrounds 1 l o) l o l (linesIn (decoded l .core))
