@@ -1,3 +1,5 @@
 pub mod Promises
 pub mod Exact
 pub mod Refusals
+pub mod SoundCommands
+pub mod Valid
