@@ -3,3 +3,5 @@ pub mod Exact
 pub mod Refusals
 pub mod SoundCommands
 pub mod Valid
+pub mod Commands
+pub mod Standby

@@ -28,3 +28,8 @@ pub record Exact (number : ℕ) (gs : List Ground) : Type 0 where
   pub refused : (k : ℕ) → First k gs → number ≡ k
   pub groundless : number ≡ 0 → NoneHolds gs
   pub accepted : NoneHolds gs → number ≡ 0
+
+-- one thing holds exactly if the other does
+pub record Exactly (A B : Type 0) : Type 0 where
+  pub only : A → B
+  pub always : B → A
