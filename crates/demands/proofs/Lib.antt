@@ -5,3 +5,5 @@ pub mod SoundCommands
 pub mod Valid
 pub mod Commands
 pub mod Standby
+pub mod Clock
+pub mod ReadBack
