@@ -1,0 +1,151 @@
+-- Demand 1: from a valid image every event leaves a valid image. Assumes nothing.
+use Prim.Native.Nat.{ℕ, _<_}
+use mathlib.Core.Path.{_≡_, refl, sym, ap, subst, _∙_}
+use mathlib.Core.Bool.{Bool, true, false, not}
+use mathlib.Core.List.{List, [], _∷_, _++_}
+use native.Mathlib.Omega.{arith}
+use lib.Dec.{eqb}
+use lib.ListN.{length, getD}
+use borrow.Author.Tests.{eqb-true, eqb-false, eq-eqb}
+use Rattle.common.specs.Grounds.{Ground, ground, NoneHolds}
+use Rattle.common.proofs.Choice.{by-cases}
+use Rattle.common.proofs.Each.{each-at, done, _also_}
+use Rattle.remote.specs.declared.Received.{Received}
+use Rattle.remote.specs.declared.Received.the-variants.{Key, NoKey}
+use Rattle.remote.specs.Frame.{keyOf}
+use Rattle.remote.proofs.Keys.{Ours, key-ours}
+use Rattle.command.specs.Refusals.{grounds}
+use Rattle.command.specs.Decode.{commandOf}
+use Rattle.command.specs.Holds.{Holds}
+use Rattle.command.proofs.Accepted.{none-awake, none-holds}
+use Rattle.controller.specs.declared.Core.{Core}
+use Rattle.controller.specs.Sound.{Sound}
+use Rattle.controller.specs.Remote.{keyed}
+use Rattle.properties.proofs.Sound.{sound-ticked, sound-sampled, sound-keyed, sound-readySet, sound-wakeUpSet, sound-poweredUp}
+use Rattle.panel.specs.declared.Panel.{Panel}
+use Rattle.panel.specs.PowerUp.{panelPoweredUp}
+use Rattle.panel.specs.Execute.{writesNoCalendar}
+use Rattle.image.specs.Image.{decoded, encoded}
+use Rattle.image.specs.Sound.{SoundDisplay, SoundPanel}
+use Rattle.image.proofs.Bytes.{encoded-bytes}
+use Rattle.image.proofs.Laws.{decode-encode}
+use Rattle.validity.specs.Valid.{isValid}
+use Rattle.validity.proofs.Laws.{sound, encode-decode, valid-encoded}
+use Rattle.stled325.specs.Calls.{high, keyedBy}
+use Rattle.demands.specs.Event.{Event, powerUp, tick, sample, frame, ready, wakeUp, command, show, lines, Given, groundsOf, panelAfter, imageAfter, after, Valid}
+use Rattle.demands.proofs.Refusals.{refused-untouched, accepted-leaves, grounds-exact}
+use Rattle.demands.proofs.SoundCommands.{sound-executed}
+
+-- ---- Valid images and sound panels
+
+pub valid-sound : {l : List ℕ} → Valid l → SoundPanel (decoded l)
+valid-sound {l} v = sound l (v .valid) (v .bytes)
+
+pub sound-valid : {p : Panel} → SoundPanel p → Valid (encoded p)
+sound-valid {p} s = record { bytes = encoded-bytes p s; valid = valid-encoded p s }
+
+-- ---- What an accepted command has
+
+none-left : (gs hs : List Ground) → NoneHolds (gs ++ hs) → NoneHolds gs
+none-left [] hs n = tt
+none-left (g ∷ gs) hs n = (n .0, none-left gs hs (n .1))
+
+none-right : (gs hs : List Ground) → NoneHolds (gs ++ hs) → NoneHolds hs
+none-right [] hs n = n
+none-right (g ∷ gs) hs n = none-right gs hs (n .1)
+
+module _ (s l o : List ℕ) (a : after (command s) l o .number ≡ 0) where
+  abbrev table : List Ground
+  table = grounds s (decoded l .core .power .stby) (length o)
+
+  abbrev last : List Ground
+  last = ground 9 (writesNoCalendar (decoded l) (commandOf s) s) ∷ []
+
+  none : NoneHolds (table ++ last)
+  none = grounds-exact (command s) l o .groundless a .1
+
+  pub command-awake : decoded l .core .power .stby ≡ false
+  command-awake = none-awake s (decoded l .core .power .stby) (length o) (none-left table last none)
+
+  pub command-holds : Holds s (length o) (commandOf s)
+  command-holds = none-holds s (decoded l .core .power .stby) (length o) (none-left table last none)
+
+  pub command-writes : writesNoCalendar (decoded l) (commandOf s) s ≡ false
+  command-writes = none-right table last none .0
+
+-- ---- Sound panels
+
+sound-keyedBy : {c : Core} → Sound 16 c → (r : Received) → Ours r → Sound 16 (keyedBy r c)
+sound-keyedBy {c} h (Key a k) u = subst (λ (x : ℕ). Sound 16 (keyed c x k)) (sym (eqb-true a 0 (u .to-us))) (sound-keyed h k (u .command))
+sound-keyedBy h NoKey u = h
+
+pub sound-powered-up : SoundPanel panelPoweredUp
+sound-powered-up =
+    record {
+      core = sound-poweredUp 16;
+      display =
+          record {
+            some = omega arith;
+            most = omega arith;
+            control = omega arith;
+            sized = refl;
+            bytes = each-at (λ (x : ℕ). x < 256) (0 ∷ 0 ∷ 0 ∷ 0 ∷ 0 ∷ []) 0 (omega arith also omega arith also omega arith also omega arith also omega arith also done) (omega arith);
+          };
+    }
+
+module _ {l : List ℕ} (v : Valid l) where
+  abbrev h : SoundPanel (decoded l)
+  h = valid-sound v
+
+  on-core : (c : Core) → Sound 16 c → SoundPanel (record { core = c; display = decoded l .display })
+  on-core c s = record { core = s; display = h .display }
+
+  -- the panel after an accepted event is sound
+  pub sound-after : (e : Event) → Given e → (o : List ℕ) → after e l o .number ≡ 0 → SoundPanel (panelAfter e (decoded l))
+  sound-after powerUp g o a = sound-powered-up
+  sound-after tick g o a = on-core _ (sound-ticked (h .core))
+  sound-after (sample n) g o a = on-core _ (sound-sampled (h .core) n g)
+  sound-after (frame n) g o a = on-core _ (sound-keyedBy (h .core) (keyOf (decoded l .core .setup .protocol) n) (key-ours (decoded l .core .setup .protocol) n))
+  sound-after (ready level) g o a = on-core _ (sound-readySet (h .core) (high level))
+  sound-after (wakeUp level) g o a = on-core _ (sound-wakeUpSet (h .core) (high level))
+  sound-after (command s) g o a = sound-executed h s g (length o) (command-awake s l o a) (commandOf s) (command-holds s l o a) (command-writes s l o a)
+  sound-after show g o a = h
+  sound-after lines g o a = h
+
+  -- ---- The image of a valid image's event is that of the panel after it
+
+  pub image-after : (e : Event) → imageAfter e l ≡ encoded (panelAfter e (decoded l))
+  image-after powerUp = refl
+  image-after tick = refl
+  image-after (sample n) = refl
+  image-after (frame n) = refl
+  image-after (ready level) = refl
+  image-after (wakeUp level) = refl
+  image-after (command s) = refl
+  image-after show = sym (encode-decode l (v .valid) (v .bytes))
+  image-after lines = sym (encode-decode l (v .valid) (v .bytes))
+
+  module _ (e : Event) (g : Given e) (o : List ℕ) (a : after e l o .number ≡ 0) where
+    accepted-image : after e l o .image ≡ encoded (panelAfter e (decoded l))
+    accepted-image = accepted-leaves e l o a .0 ∙ image-after e
+
+    -- the panel in the image that an accepted event leaves
+    pub accepted-panel : decoded (after e l o .image) ≡ panelAfter e (decoded l)
+    accepted-panel = ap decoded accepted-image ∙ decode-encode (panelAfter e (decoded l)) (sound-after e g o a)
+
+    accepted-valid : Valid (after e l o .image)
+    accepted-valid = subst Valid (sym accepted-image) (sound-valid (sound-after e g o a))
+
+  -- ---- A VALID IMAGE STAYS VALID, whatever happens
+
+  pub stays-valid : (e : Event) → Given e → (o : List ℕ) → Valid (after e l o .image)
+  stays-valid e g o =
+      by-cases (Valid (after e l o .image)) (eqb (after e l o .number) 0) (λ z. accepted-valid e g o (eqb-true _ 0 z))
+      (λ z. subst Valid (sym (refused-untouched e l o (eqb-false _ 0 z) .0)) v)
+
+-- ---- POWER-UP makes one of any 64 bytes
+
+pub power-up-valid : (l o : List ℕ) → length l ≡ 64 → (after powerUp l o .number ≡ 0) × Valid (after powerUp l o .image)
+power-up-valid l o n =
+    let a = grounds-exact powerUp l o .accepted ((λ i. not (eq-eqb (length l) 64 n i)), tt) in
+    (a, subst Valid (sym (accepted-leaves powerUp l o a .0)) (sound-valid sound-powered-up))

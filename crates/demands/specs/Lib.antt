@@ -1,0 +1,4 @@
+pub mod Event
+pub mod Exact
+pub mod Standby
+pub mod Clock
