@@ -1,14 +1,14 @@
 -- The ways out of the calls but the command, as the code reaches them. v is what the test of validity found. Assumes nothing.
-use Prim.Native.Nat.{ℕ, _≤_}
-use mathlib.Core.Path.{_≡_, refl, sym, ap, _∙_}
+use Prim.Native.Nat.{ℕ, _≤_, _<_}
+use mathlib.Core.Path.{_≡_, refl, sym, ap, subst, _∙_}
 use mathlib.Core.Bool.{Bool, true, false, not}
 use mathlib.Core.List.{List, [], _∷_, _++_, append-nil}
 use native.Mathlib.Omega.{arith}
-use lib.Dec.{eqb}
-use lib.ListN.{length, set, take, drop, drop-of-length-le}
+use lib.Dec.{eqb, ltb}
+use lib.ListN.{length, getD, set, take, drop, drop-of-length-le}
 use lib.Seq.{take-length}
 use native.Mathlib.Nat.{le-of-eq}
-use borrow.Author.Tests.{eq-eqb, ne-eqb, not-false}
+use borrow.Author.Tests.{eq-eqb, ne-eqb, lt-ltb, le-ltb, not-false}
 use Rattle.common.specs.Grounds.{Ground, ground}
 use Rattle.remote.specs.declared.Received.{Received}
 use Rattle.remote.specs.declared.Received.the-variants.{Key, NoKey}
@@ -22,9 +22,13 @@ use Rattle.panel.specs.State.{withCore, onCore}
 use Rattle.panel.specs.PowerUp.{panelPoweredUp}
 use Rattle.image.specs.Image.{decoded, encoded}
 use Rattle.validity.specs.Valid.{isValid}
-use Rattle.validity.proofs.Laws.{valid-length}
+use Rattle.validity.proofs.Laws.{valid-length, sound}
+use Rattle.calendar.specs.Clock.{Valid}
+use Rattle.timekeeper.specs.Clock.{clockOf}
+use Rattle.properties.proofs.SoundParts.{valid-clock-of}
+use Rattle.supply.specs.Return.{LIMIT, panelReturned}
 use Rattle.stled325.specs.Outcome.{outcome, decided, invalid}
-use Rattle.stled325.specs.Calls.{powerUpGrounds, powerUpCall, eventGrounds, imageAfter, eventCall, received, isNoKey, keyedBy, frameGrounds, frameCall, viewGrounds, shownOf, showCall, linesIn, linesCall}
+use Rattle.stled325.specs.Calls.{powerUpGrounds, powerUpCall, eventGrounds, imageAfter, eventCall, received, isNoKey, keyedBy, frameGrounds, frameCall, supplyGrounds, imageReturned, supplyReturnCall, viewGrounds, shownOf, showCall, linesIn, linesCall}
 use Rattle.stled325.proofs.Decided.{accepted, refused, first-holds, first-passed, not-valid}
 
 -- ---- power-up
@@ -76,6 +80,22 @@ module _ (l : List ℕ) (v : Bool) (e : v ≡ isValid l) where
       frame-done a k er′ x q m ex eq em =
           ap (λ (y : List ℕ). outcome 0 y []) (stored (keyedBy (received l frame)) x q m (ex ∙ ap (λ (y : Received). keyedBy y (p .core)) (sym er′ ∙ is-received)) eq em)
           ∙ accepted (frameGrounds l frame) l [] (imageAfter (keyedBy (received l frame)) l) [] (good h, (ap isNoKey (sym is-received ∙ er′), tt))
+
+  -- ---- supply return
+  module _ (h : not v ≡ false) (n : ℕ) where
+    pub return-refused : 31622400 < n → outcome 10 l [] ≡ supplyReturnCall l n
+    return-refused g =
+        refused (supplyGrounds l n) l [] (imageReturned l n) [] 10 (λ (z : _≡_ {A = ℕ} 10 0). omega arith)
+        (first-holds (ltb LIMIT n) 10 [] (lt-ltb LIMIT n g) ∙ first-passed (not (isValid l)) 1 (ground 10 (ltb LIMIT n) ∷ []) (good h))
+
+    pub return-done : n ≤ 31622400 → (p q : Panel) (m : List ℕ) → p ≡ decoded l → q ≡ panelReturned n p → m ≡ encoded q → outcome 0 m [] ≡ supplyReturnCall l n
+    return-done g p q m ep eq em =
+        ap (λ (y : List ℕ). outcome 0 y []) (em ∙ ap encoded (eq ∙ ap (panelReturned n) ep))
+        ∙ accepted (supplyGrounds l n) l [] (imageReturned l n) [] (good h, (le-ltb LIMIT n g, tt))
+
+    pub return-allowed : n ≤ 31622400 → (p : Panel) → p ≡ decoded l → ((i : ℕ) → getD l i 0 < 256) → Valid (clockOf (p .core .rtc .registers)) × (n ≤ 31622400)
+    return-allowed g p ep small =
+        (subst (λ (x : Panel). Valid (clockOf (x .core .rtc .registers))) (sym ep) (valid-clock-of (sound l (sym e ∙ not-false v h) small .core .rtc)), g)
 
   -- ---- show and lines
   module _ (h : not v ≡ false) (o : List ℕ) where

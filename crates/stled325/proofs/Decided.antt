@@ -4,9 +4,10 @@ use mathlib.Core.Path.{_≡_, refl, sym, ap, _∙_}
 use mathlib.Core.Bool.{Bool, true, false, not}
 use mathlib.Core.List.{List, [], _∷_}
 use native.Mathlib.Omega.{arith}
-use borrow.Author.Tests.{eq-eqb, ne-eqb}
+use lib.Dec.{eqb}
+use borrow.Author.Tests.{eq-eqb, ne-eqb, eqb-true}
 use Rattle.common.specs.Grounds.{Ground, ground, firstGround, NoneHolds}
-use Rattle.common.proofs.Choice.{on-true, on-false}
+use Rattle.common.proofs.Choice.{on-true, on-false, by-cases}
 use Rattle.common.proofs.Grounds.{ground-none}
 use Rattle.validity.specs.Valid.{isValid}
 use Rattle.stled325.specs.Outcome.{Outcome, outcome, decided, invalid}
@@ -22,6 +23,14 @@ module _ (gs : List Ground) (l o m q : List ℕ) where
   pub refused : (n : ℕ) → (n ≡ 0 → ⊥) → n ≡ firstGround gs → outcome n l o ≡ decided gs l o m q
   unfolding decided
   refused n z e = ap (λ (k : ℕ). outcome k l o) e ∙ on-false _ _ (ne-eqb (firstGround gs) 0 (λ (x : firstGround gs ≡ 0). z (e ∙ x)))
+
+  -- the number is that of the first true ground
+  pub decided-number : decided gs l o m q .number ≡ firstGround gs
+  unfolding decided
+  decided-number =
+      by-cases (decided gs l o m q .number ≡ firstGround gs) (eqb (firstGround gs) 0)
+      (λ t. ap (λ (x : Outcome). x .number) (sym (on-true (outcome 0 m q) (outcome (firstGround gs) l o) t)) ∙ sym (eqb-true (firstGround gs) 0 t))
+      (λ f. ap (λ (x : Outcome). x .number) (sym (on-false (outcome 0 m q) (outcome (firstGround gs) l o) f)))
 
 -- the first ground of a list holds
 pub first-holds : (b : Bool) (n : ℕ) (gs : List Ground) → b ≡ true → n ≡ firstGround (ground n b ∷ gs)

@@ -2,7 +2,7 @@
 use Prim.Native.Nat.{ℕ}
 use mathlib.Core.Bool.{Bool, true, false, not}
 use mathlib.Core.List.{List, [], _∷_}
-use lib.Dec.{eqb}
+use lib.Dec.{eqb, ltb}
 use lib.ListN.{length}
 use Rattle.common.specs.Grounds.{Ground, ground}
 use Rattle.remote.specs.declared.Received.{Received}
@@ -18,6 +18,7 @@ use Rattle.display.specs.Lines.{linesOf}
 use Rattle.panel.specs.declared.Panel.{Panel}
 use Rattle.panel.specs.State.{onCore}
 use Rattle.panel.specs.PowerUp.{panelPoweredUp}
+use Rattle.supply.specs.Return.{LIMIT, panelReturned}
 use Rattle.image.specs.Layout.{SIZE}
 use Rattle.image.specs.Image.{decoded, encoded}
 use Rattle.stled325.specs.Outcome.{Outcome, decided, invalid}
@@ -77,6 +78,18 @@ frameGrounds l frame = invalid l ∷ ground 11 (isNoKey (received l frame)) ∷ 
 
 abbrev pub frameCall : List ℕ → ℕ → Outcome
 frameCall l frame = decided (frameGrounds l frame) l [] (imageAfter (keyedBy (received l frame)) l) []
+
+-- ---- Supply return after n seconds
+
+-- ground 10: n above 31,622,400
+abbrev pub supplyGrounds : List ℕ → ℕ → List Ground
+supplyGrounds l n = invalid l ∷ ground 10 (ltb LIMIT n) ∷ []
+
+abbrev pub imageReturned : List ℕ → ℕ → List ℕ
+imageReturned l n = encoded (panelReturned n (decoded l))
+
+abbrev pub supplyReturnCall : List ℕ → ℕ → Outcome
+supplyReturnCall l n = decided (supplyGrounds l n) l [] (imageReturned l n) []
 
 -- ---- Show and lines leave the image as it is
 

@@ -5,12 +5,13 @@ ghost use lib.ListN.{length};
 ghost use Rattle.image.specs.Image.{decoded, encoded};
 ghost use Rattle.panel.specs.State.{withCore};
 ghost use Rattle.stled325.specs.Outcome.{outcome};
-ghost use Rattle.stled325.specs.Calls.{powerUpCall, tickCall, sampleCall, readyCall, wakeUpCall, frameCall, showCall, linesCall, shownOf};
+ghost use Rattle.stled325.specs.Calls.{powerUpCall, tickCall, sampleCall, readyCall, wakeUpCall, frameCall, supplyReturnCall, showCall, linesCall, shownOf};
 ghost use Rattle.stled325.specs.Command.{commandCall};
 use command::Decoded;
 use controller::Core;
 use panel::Panel;
 use remote::Received;
+use units::Seconds;
 
 // The panel in an image of 64 bytes.
 fn panel_in(image: &[u8]) -> Panel
@@ -146,6 +147,22 @@ pub extern "C" fn stled325_command(image: &mut [u8], bytes: &[u8], out: &mut [u8
     let next = served.panel;
     p.reply(k, out);
     store(image, next);
+    0
+}
+
+#[no_mangle]
+pub extern "C" fn stled325_supply_return(image: &mut [u8], seconds: u32) -> u32
+    ensures { λ r. ⌜ outcome r (now (image .exit)) [] ≡ supplyReturnCall (now (image .entry)) seconds ⌝ }
+{
+    if !validity::is_valid(image) {
+        return 1;
+    }
+    if seconds > supply::LIMIT {
+        return 10;
+    }
+    let p = panel_in(image);
+    let n = Seconds(seconds);
+    store(image, supply::return_panel(p, n));
     0
 }
 

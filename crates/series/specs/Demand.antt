@@ -1,0 +1,59 @@
+-- Demand 3, of a series of supply returns after ns from the image l, which leaves the image after and gives the numbers answers.
+use Prim.Native.Nat.{ℕ, _+_, _%_, _≤_}
+use mathlib.Core.Path.{_≡_}
+use mathlib.Core.Bool.{Bool, true, false, not, _&&_, _||_}
+use mathlib.Core.List.{List, [], map}
+use Rattle.common.specs.Bits.{bitSet}
+use Rattle.common.specs.Grounds.{firstGround}
+use Rattle.calendar.specs.declared.Clock.{Clock}
+use Rattle.calendar.specs.Clock.{count, cycle, multiples, weekdayOn}
+use Rattle.alarm.specs.Match.{matches}
+use Rattle.alarm.specs.Reached.{anyReached}
+use Rattle.registers.specs.Names.{stopped, AFE, ABE}
+use Rattle.timekeeper.specs.Clock.{clockOf}
+use Rattle.timekeeper.specs.Alarm.{alarmOf}
+use Rattle.controller.specs.State.{ALARM-FLAG}
+use Rattle.image.specs.Image.{registersIn}
+use Rattle.image.specs.Layout.{FLAGS, byteAt}
+use Rattle.validity.specs.Valid.{isValid}
+use Rattle.supply.specs.Return.{LIMIT}
+use Rattle.stled325.specs.Outcome.{outcome}
+use Rattle.stled325.specs.Calls.{supplyGrounds, supplyReturnCall}
+use Rattle.series.specs.Series.{total, someAccepted, plainClock}
+
+-- the calendar with its weekday, the oscillator stop, and the alarm flag of an image
+abbrev pub clockIn : List ℕ → Clock
+clockIn l = clockOf (registersIn l)
+
+abbrev pub stoppedIn : List ℕ → Bool
+stoppedIn l = stopped (registersIn l)
+
+abbrev pub flagIn : List ℕ → Bool
+flagIn l = bitSet (byteAt l FLAGS) ALARM-FLAG
+
+-- the oscillator runs, both alarm bits are set, and one of the n seconds reached matches, each with its weekday then
+abbrev pub alarmReached : List ℕ → ℕ → Bool
+alarmReached l n =
+    not (stoppedIn l) && (AFE (registersIn l) && ABE (registersIn l)) && anyReached (matches (alarmOf (registersIn l))) (clockIn l) n
+
+pub record Demand3 (l ns after answers : List ℕ) : Type 0 where
+  -- each return is refused exactly on the refusal table's grounds, the first true one giving its number
+  pub refusals : answers ≡ map (λ n. firstGround (supplyGrounds l n)) ns
+  -- from an image that is not valid nothing is accepted and nothing changes
+  pub invalid-start : isValid l ≡ false → after ≡ l
+  -- no return accepted: the image is as it was
+  pub none-accepted : someAccepted ns ≡ false → after ≡ l
+  -- from a valid image the image stays valid
+  pub valid-end : isValid l ≡ true → isValid after ≡ true
+  -- the clock stands where the plain clock run beside the image stands
+  pub clock : isValid l ≡ true → clockIn after ≡ plainClock (stoppedIn l) (clockIn l) ns
+  -- oscillator running: the sum of places further round the count of seconds
+  pub running : isValid l ≡ true → stoppedIn l ≡ false → count (clockIn after) ≡ (count (clockIn l) + total ns) % cycle
+  -- the weekday one further for each midnight passed
+  pub weekday : isValid l ≡ true → stoppedIn l ≡ false → clockIn after .weekday ≡ weekdayOn (clockIn l .weekday) (multiples (count (clockIn l)) (total ns))
+  -- oscillator stopped: where it was
+  pub standing : isValid l ≡ true → stoppedIn l ≡ true → clockIn after ≡ clockIn l
+  -- the alarm flag is up exactly if it was up before or a second reached matches and counts
+  pub flag : isValid l ≡ true → flagIn after ≡ (flagIn l || alarmReached l (total ns))
+  -- at least one accepted and the sum within the limit: byte for byte the image of a single return after the sum
+  pub single : isValid l ≡ true → someAccepted ns ≡ true → total ns ≤ LIMIT → outcome 0 after [] ≡ supplyReturnCall l (total ns)

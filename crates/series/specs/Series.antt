@@ -1,0 +1,38 @@
+-- A series of supply returns, each on the image that the one before it left, and the plain clock of document 01 run beside it.
+use Prim.Native.Nat.{ℕ, _+_}
+use mathlib.Core.Bool.{Bool, false, cond, not, _&&_, _||_}
+use mathlib.Core.List.{List, [], _∷_}
+use lib.Dec.{leb}
+use Rattle.calendar.specs.declared.Clock.{Clock}
+use Rattle.calendar.specs.Clock.{moved}
+use Rattle.supply.specs.Return.{LIMIT}
+use Rattle.stled325.specs.Calls.{supplyReturnCall}
+
+-- the image after the series
+unfoldable pub imageAfter : List ℕ → List ℕ → List ℕ
+imageAfter l [] = l
+imageAfter l (n ∷ ns) = imageAfter (supplyReturnCall l n .image) ns
+
+-- the number of each return
+unfoldable pub numbers : List ℕ → List ℕ → List ℕ
+numbers l [] = []
+numbers l (n ∷ ns) = supplyReturnCall l n .number ∷ numbers (supplyReturnCall l n .image) ns
+
+-- n is within the limit
+abbrev pub within : ℕ → Bool
+within n = leb n LIMIT
+
+-- the sum of the accepted n, from a valid image
+unfoldable pub total : List ℕ → ℕ
+total [] = 0
+total (n ∷ ns) = cond (within n) n 0 + total ns
+
+-- at least one return is accepted, from a valid image
+unfoldable pub someAccepted : List ℕ → Bool
+someAccepted [] = false
+someAccepted (n ∷ ns) = within n || someAccepted ns
+
+-- the plain clock, fed each n: it moves on by each accepted one, unless stopped
+unfoldable pub plainClock : Bool → Clock → List ℕ → Clock
+plainClock stop c [] = c
+plainClock stop c (n ∷ ns) = plainClock stop (cond (within n && not stop) (moved c n) c) ns

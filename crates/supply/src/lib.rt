@@ -1,0 +1,98 @@
+// Supply return: the panel at power-up, but for the clock, which moved on over the cut.
+ghost use mathlib.Core.Path.{_≡_};
+ghost use Prim.Native.Nat.{_≤_};
+ghost use Rattle.calendar.specs.Clock.{Valid};
+ghost use Rattle.timekeeper.specs.Clock.{clockOf};
+ghost use Rattle.supply.specs.Return.{registersReturned, matchCounts, flagsReturned, rtcReturned, interruptFor, returned, panelReturned};
+use controller::Core;
+use controller::Rtc;
+use panel::Panel;
+use units::Seconds;
+use units::Sixteenths;
+
+// The longest cut that a return takes, in seconds.
+pub const LIMIT: u32 = 31_622_400;
+
+// The registers after n seconds without supply.
+fn return_registers(registers: [u8; 16], n: Seconds) -> [u8; 16]
+    requires { ⌜ Valid (clockOf registers) ⌝ }
+    requires { ⌜ n .0 ≤ 31622400 ⌝ }
+    ensures { λ r. ⌜ r ≡ registersReturned (n .0) registers ⌝ }
+{
+    if registers::is_stopped(registers) {
+        return registers;
+    }
+    let clock = timekeeper::clock_of(registers);
+    timekeeper::with_clock(registers, calendar::move_on(clock, n))
+}
+
+// Whether a match of one of the n seconds reached counts: the oscillator runs and both alarm bits are set.
+fn match_counts(registers: [u8; 16], n: Seconds) -> bool
+    requires { ⌜ Valid (clockOf registers) ⌝ }
+    requires { ⌜ n .0 ≤ 31622400 ⌝ }
+    ensures { λ r. ⌜ r ≡ matchCounts (n .0) registers ⌝ }
+{
+    if registers::is_stopped(registers) {
+        return false;
+    }
+    if !(registers::afe(registers) & registers::abe(registers)) {
+        return false;
+    }
+    let clock = timekeeper::clock_of(registers);
+    alarm::any_match(timekeeper::alarm_of(registers), clock, n)
+}
+
+// The flags after n seconds without supply.
+fn return_flags(registers: [u8; 16], flags: u8, n: Seconds) -> u8
+    requires { ⌜ Valid (clockOf registers) ⌝ }
+    requires { ⌜ n .0 ≤ 31622400 ⌝ }
+    ensures { λ r. ⌜ r ≡ flagsReturned (n .0) registers flags ⌝ }
+{
+    if match_counts(registers, n) {
+        return flags | 1;
+    }
+    flags
+}
+
+// The clock's part of the state; the watchdog stops.
+fn return_rtc(r: Rtc, n: Seconds) -> Rtc
+    requires { ⌜ Valid (clockOf (r .registers)) ⌝ }
+    requires { ⌜ n .0 ≤ 31622400 ⌝ }
+    ensures { λ r′. ⌜ r′ ≡ rtcReturned (n .0) r ⌝ }
+{
+    let registers = r.registers;
+    let sixteenths = r.sixteenths;
+    let none = Sixteenths(0);
+    let moved = return_registers(registers, n);
+    let flags = return_flags(registers, r.flags, n);
+    Rtc {
+        registers: moved,
+        sixteenths,
+        flags,
+        watchdog: none,
+    }
+}
+
+// The interrupt byte: b4 exactly if the alarm flag is up.
+fn interrupt_for(flags: u8) -> u8
+    ensures { λ r. ⌜ r ≡ interruptFor flags ⌝ }
+{
+    if common::bit(flags, 1) { 16 } else { 0 }
+}
+
+// The panel after n seconds without supply.
+pub fn return_panel(p: Panel, n: Seconds) -> Panel
+    requires { ⌜ Valid (clockOf (p .core .rtc .registers)) ⌝ }
+    requires { ⌜ n .0 ≤ 31622400 ⌝ }
+    ensures { λ r. ⌜ r ≡ panelReturned (n .0) p ⌝ }
+{
+    let old = p.core;
+    let kept = old.rtc;
+    let rtc = return_rtc(kept, n);
+    let mut up = Panel::power_up();
+    let mut core = up.core;
+    core.rtc = rtc;
+    core.interrupt = interrupt_for(rtc.flags);
+    up.core = core;
+    up
+}
