@@ -1,0 +1,345 @@
+/*
+ * night.c - a night in the reading room.
+ *
+ * One panel from closing time to the next morning, drawn in the terminal as a
+ * person before it would see it: sleep at closing, a clock that runs on, two
+ * keys in the night, a mains cut that swallows the hour of the alarm, and a
+ * panel that tells its alarm all the same. Everything seen comes from the
+ * library's calls; the program only plays the keys, the host and the mains.
+ *
+ * Build: cc -std=c99 -I include examples/night.c libstled325.a -o night
+ */
+#define _POSIX_C_SOURCE 200112L /* isatty and nanosleep */
+
+#include <stdio.h>
+#include <stdlib.h>
+#include <string.h>
+#include <time.h>
+#include <unistd.h>
+
+#include "stled325.h"
+
+/* Seconds of the story, counted from Monday 16 November 2026, 00:00:00. */
+#define DAY 86400UL
+#define MONDAY 0UL
+#define TUESDAY DAY
+#define AT(day, hour, minute, second) \
+    ((day) + 3600UL * (hour) + 60UL * (minute) + (second))
+
+/* Two keys of the front: KEY1 on KS1, the only hot one, and KEY2 on KS3. */
+#define POWER_KEY 0x0001u
+#define MENU_KEY  0x0020u
+
+static uint8_t image[STLED325_IMAGE_LEN];
+static unsigned long now;        /* the story's time                     */
+static int colours;              /* stdout is a terminal                 */
+static double pause_seconds;     /* after each picture; 0 for a plain run */
+
+/* ---- checking ---------------------------------------------------- */
+
+static void must(uint32_t number, const char *call)
+{
+    if (number != STLED325_ACCEPTED) {
+        fflush(stdout);
+        fprintf(stderr, "night: %s was refused by %lu\n", call, (unsigned long)number);
+        exit(EXIT_FAILURE);
+    }
+}
+
+/* ---- drawing ----------------------------------------------------- */
+
+static const char *colour(const char *code)
+{
+    return colours ? code : "";
+}
+
+#define LIT   colour("\033[1;31m")
+#define AMBER colour("\033[1;33m")
+#define BOLD  colour("\033[1m")
+#define PLAIN colour("\033[0m")
+
+/* One of the three text rows of a digit: three columns, then the point's. */
+static void draw_row(uint8_t segments, int row)
+{
+    static const struct { uint8_t left, middle, right; } rows[3] = {
+        { 0x00, 0x01, 0x00 }, /*    a    */
+        { 0x20, 0x40, 0x02 }, /* f  g  b */
+        { 0x10, 0x08, 0x04 }  /* e  d  c */
+    };
+    putchar(segments & rows[row].left ? '|' : ' ');
+    putchar(segments & rows[row].middle ? '_' : ' ');
+    putchar(segments & rows[row].right ? '|' : ' ');
+    putchar(row == 2 && (segments & STLED325_POINT) ? '.' : ' ');
+}
+
+static void pause_if_watched(void)
+{
+    struct timespec rest;
+
+    fflush(stdout);
+    if (pause_seconds > 0) {
+        rest.tv_sec = (time_t)pause_seconds;
+        rest.tv_nsec = (long)((pause_seconds - (double)rest.tv_sec) * 1e9);
+        nanosleep(&rest, NULL);
+    }
+}
+
+/* The face with its lamps; a panel without supply shows nothing at all. */
+static void draw(int powered)
+{
+    static const char *const names[3] = { "STBY", "MUTE", "IRQ " };
+    static const uint8_t bits[3] = {
+        STLED325_LINE_STBY, STLED325_LINE_MUTE, STLED325_LINE_IRQ
+    };
+    uint8_t digits[STLED325_DIGITS_LEN] = { 0 };
+    uint8_t lines[STLED325_LINES_LEN] = { 0 };
+    int row, digit;
+
+    if (powered) {
+        must(stled325_show(image, sizeof image, digits, sizeof digits), "show");
+        must(stled325_lines(image, sizeof image, lines, sizeof lines), "lines");
+    }
+    printf("    .---------------------------.\n");
+    for (row = 0; row < 3; row++) {
+        printf("    |  %s", LIT);
+        for (digit = 0; digit < STLED325_DIGITS_LEN; digit++) {
+            draw_row(digits[digit], row);
+            putchar(' ');
+        }
+        printf("%s|   %s ", PLAIN, names[row]);
+        if (lines[0] & bits[row])
+            printf("%s(*)%s\n", AMBER, PLAIN);
+        else
+            printf("( )\n");
+    }
+    printf("    '---------------------------'\n\n");
+    pause_if_watched();
+}
+
+static void caption(const char *words)
+{
+    unsigned long time = now % DAY;
+
+    printf("%s%s %02lu:%02lu:%02lu%s  %s\n", BOLD, now < TUESDAY ? "Mon" : "Tue",
+           time / 3600, time / 60 % 60, time % 60, PLAIN, words);
+}
+
+/* ---- what happens to the panel ------------------------------------- */
+
+/* Ticks until the story reaches this time. */
+static void wait_until(unsigned long then)
+{
+    unsigned long ticks;
+
+    for (ticks = (then - now) * STLED325_TICKS_PER_SECOND; ticks > 0; ticks--)
+        must(stled325_tick(image, sizeof image), "tick");
+    now = then;
+}
+
+/* The host sends a command, and the bytes of both ways are told. */
+static void host(const char *why, const uint8_t *bytes, size_t bytes_len,
+                 uint8_t *out, size_t out_len)
+{
+    size_t i;
+    int column = 0;
+
+    must(stled325_command(image, sizeof image, bytes, bytes_len, out, out_len), why);
+    printf("    host ");
+    for (i = 0; i < bytes_len; i++)
+        column += printf(" %02X", bytes[i]);
+    if (out_len > 0)
+        column += printf(" ->");
+    for (i = 0; i < out_len; i++)
+        column += printf(" %02X", out[i]);
+    printf("%*s  %s\n", column < 33 ? 33 - column : 0, "", why);
+}
+
+static void host_says(const char *why, const uint8_t *bytes, size_t bytes_len)
+{
+    uint8_t nothing[1] = { 0 };
+
+    host(why, bytes, bytes_len, nothing, 0);
+}
+
+#define SAY(why, ...) \
+    do { \
+        const uint8_t said[] = { __VA_ARGS__ }; \
+        host_says(why, said, sizeof said); \
+    } while (0)
+
+/* A key goes down and up again; the scan sees each state twice. */
+static void press(uint16_t key)
+{
+    must(stled325_key_sample(image, sizeof image, key), "key sample");
+    must(stled325_key_sample(image, sizeof image, key), "key sample");
+    must(stled325_key_sample(image, sizeof image, 0), "key sample");
+    must(stled325_key_sample(image, sizeof image, 0), "key sample");
+}
+
+static void ready(uint32_t level)
+{
+    must(stled325_ready(image, sizeof image, level), "READY");
+}
+
+/* ---- the story ----------------------------------------------------- */
+
+static void evening(void)
+{
+    now = AT(MONDAY, 17, 30, 0);
+    must(stled325_power_up(image, sizeof image), "power-up");
+    caption("The terminal is plugged in. The panel powers up dark, the sound muted.");
+    draw(1);
+
+    wait_until(AT(MONDAY, 17, 30, 2));
+    caption("The host has booted and greets the room.");
+    SAY("five digits", STLED325_CMD_WRITE_DIGITS, STLED325_DIGIT_1, 0x76, 0x79, 0x38, 0x38, 0x3F);
+    SAY("display on, brightest", STLED325_CMD_DISPLAY | STLED325_DISPLAY_ON | 15);
+    draw(1);
+
+    wait_until(AT(MONDAY, 17, 30, 5));
+    caption("It sets the clock, the alarm and the hot key, then raises READY.");
+    SAY("clock: Mon 16 Nov 2026, 17:30:05", STLED325_CMD_WRITE_REGISTERS, STLED325_REG_SECONDS,
+        0x05, 0x30, 0x17, 0x02, 0x16, 0x11, 0x26);
+    SAY("alarm: daily 07:30:00, AFE and ABE", STLED325_CMD_WRITE_REGISTERS, STLED325_REG_AL_MONTH,
+        STLED325_AFE | STLED325_ABE, STLED325_RPT4 | STLED325_RPT5, STLED325_RPT6 | 0x07, 0x30, 0x00);
+    SAY("KEY1 on KS1 is hot", STLED325_CMD_HOT_KEYS, POWER_KEY, 0x00);
+    SAY("clock face, NEC remote, guard 10 s",
+        STLED325_CMD_CONFIGURE | STLED325_CFG_RTC_FACE | STLED325_CFG_GUARD_STBY,
+        STLED325_PROTOCOL_NEC | 10);
+    ready(1);
+    draw(1);
+
+    wait_until(AT(MONDAY, 18, 0, 0));
+    caption("Closing time. The host asks for standby, and READY falls as its supply goes.");
+    SAY("standby", STLED325_CMD_STANDBY);
+    ready(0);
+    draw(1);
+}
+
+static void night(void)
+{
+    uint8_t reply[2];
+    const uint8_t read_keys[] = { STLED325_CMD_READ_KEYS };
+    const uint8_t read_interrupt[] = { STLED325_CMD_READ_INTERRUPT };
+
+    wait_until(AT(MONDAY, 18, 0, 59));
+    caption("In the dark room the clock goes on ...");
+    draw(1);
+    wait_until(AT(MONDAY, 18, 1, 0));
+    caption("... minute by minute.");
+    draw(1);
+
+    wait_until(AT(MONDAY, 21, 15, 0));
+    caption("A duster brushes the menu key. It is cold: nothing happens.");
+    press(MENU_KEY);
+    draw(1);
+
+    wait_until(AT(MONDAY, 22, 40, 0));
+    caption("The porter presses the power key. It is hot: the panel wakes the board.");
+    press(POWER_KEY);
+    draw(1);
+
+    wait_until(AT(MONDAY, 22, 40, 4));
+    caption("The host has booted, READY rises, and IRQ calls it.");
+    ready(1);
+    draw(1);
+
+    caption("It reads what has happened, and IRQ falls.");
+    host("keys: KEY1 on KS1 only", read_keys, sizeof read_keys, reply, sizeof reply);
+    host("interrupt: a key, in standby", read_interrupt, sizeof read_interrupt, reply, sizeof reply);
+    draw(1);
+
+    wait_until(AT(MONDAY, 22, 45, 0));
+    caption("The porter is done. The host lets READY fall, and the panel sleeps again.");
+    ready(0);
+    draw(1);
+
+    wait_until(AT(TUESDAY, 5, 0, 0));
+    caption("Five in the morning, all is well ...");
+    draw(1);
+    caption("... and the mains fail. Nothing is lit, and no tick comes.");
+    draw(0);
+}
+
+static void morning(void)
+{
+    uint8_t reply[2], clock[7];
+    const uint8_t read_interrupt[] = { STLED325_CMD_READ_INTERRUPT };
+    const uint8_t read_clock[] = { STLED325_CMD_READ_REGISTERS, STLED325_REG_SECONDS };
+    const unsigned long cut = AT(TUESDAY, 9, 0, 0) - now;
+
+    must(stled325_supply_return(image, sizeof image, (uint32_t)cut), "supply return");
+    now += cut;
+    caption("The supply returns. The panel is awake, its display still off.");
+    printf("    the cut took %lu s, and 07:30:00 fell within it\n", cut);
+    draw(1);
+
+    wait_until(AT(TUESDAY, 9, 0, 3));
+    caption("The host has booted, READY rises, and IRQ calls it.");
+    ready(1);
+    draw(1);
+
+    caption("It reads what has happened, and the time, and lights the face.");
+    host("interrupt: RTC; flag: alarm", read_interrupt, sizeof read_interrupt, reply, sizeof reply);
+    if (reply[0] != STLED325_INT_RTC || reply[1] != STLED325_FLAG_ALARM) {
+        fflush(stdout);
+        fprintf(stderr, "night: the alarm within the cut was lost\n");
+        exit(EXIT_FAILURE);
+    }
+    host("clock: Tue 17 Nov 2026, 09:00:03", read_clock, sizeof read_clock, clock, sizeof clock);
+    SAY("clock face, NEC remote, no guard", STLED325_CMD_CONFIGURE | STLED325_CFG_RTC_FACE,
+        STLED325_PROTOCOL_NEC);
+    SAY("display on, brightest", STLED325_CMD_DISPLAY | STLED325_DISPLAY_ON | 15);
+    draw(1);
+
+    caption("The doors are open, the terminal is lit, and no alarm was lost.");
+}
+
+/* ---- options ------------------------------------------------------- */
+
+static const char help[] =
+    "night: a night in the reading room, on the STLED325 panel library\n"
+    "\n"
+    "usage: night [--watch] [--speed N] [--help]\n"
+    "\n"
+    "  --watch    two seconds for each picture, to be watched\n"
+    "  --speed N  N pictures a minute, 1 to 600\n"
+    "  --help     this text\n"
+    "\n"
+    "Without options the whole night runs at once.\n";
+
+static int wrong(const char *what, const char *word)
+{
+    fprintf(stderr, "night: %s %s\n\n%s", what, word, help);
+    return 2;
+}
+
+int main(int argc, char **argv)
+{
+    int i;
+
+    for (i = 1; i < argc; i++) {
+        if (strcmp(argv[i], "--help") == 0) {
+            fputs(help, stdout);
+            return EXIT_SUCCESS;
+        } else if (strcmp(argv[i], "--watch") == 0) {
+            pause_seconds = 2;
+        } else if (strcmp(argv[i], "--speed") == 0 && i + 1 < argc) {
+            char *end;
+            const long speed = strtol(argv[++i], &end, 10);
+            if (*end != '\0' || speed < 1 || speed > 600)
+                return wrong("--speed takes a number from 1 to 600, not", argv[i]);
+            pause_seconds = 60.0 / (double)speed;
+        } else if (strcmp(argv[i], "--speed") == 0) {
+            return wrong("no number after", argv[i]);
+        } else {
+            return wrong("unknown option", argv[i]);
+        }
+    }
+    colours = isatty(STDOUT_FILENO);
+
+    evening();
+    night();
+    morning();
+    return EXIT_SUCCESS;
+}

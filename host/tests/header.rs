@@ -1,0 +1,161 @@
+//! The C header's numbers against the model's, so that both name the same bits and places.
+
+use std::collections::HashMap;
+
+use stled325_host::model::names::*;
+
+/// The header's `#define`s and enumerators that are plain numbers.
+fn header() -> HashMap<String, u32> {
+    let text = include_str!("../../include/stled325.h");
+    let number = |word: &str| {
+        let word = word.trim_end_matches(['u', 'U', 'L', ',']);
+        match word.strip_prefix("0x") {
+            Some(digits) => u32::from_str_radix(digits, 16).ok(),
+            None => word.parse().ok(),
+        }
+    };
+    let mut numbers = HashMap::new();
+    for line in text.lines() {
+        let words: Vec<&str> = line.split_whitespace().collect();
+        let (name, value) = match words[..] {
+            ["#define", name, value, ..] => (name, value),
+            [name, "=", value, ..] => (name, value),
+            _ => continue,
+        };
+        if let (Some(name), Some(value)) = (name.strip_prefix("STLED325_"), number(value)) {
+            assert!(numbers.insert(name.to_string(), value).is_none(), "{name} is defined twice");
+        }
+    }
+    numbers
+}
+
+#[test]
+fn the_header_names_the_same_numbers() {
+    let mut header = header();
+    let mut same = |name: &str, number: u32| {
+        assert_eq!(header.remove(name), Some(number), "STLED325_{name}");
+    };
+    let refusals = [
+        ("ACCEPTED", refusal::ACCEPTED),
+        ("BAD_IMAGE", refusal::IMAGE),
+        ("NO_COMMAND", refusal::NO_COMMAND),
+        ("IN_STANDBY", refusal::STANDBY),
+        ("UNKNOWN_COMMAND", refusal::UNKNOWN),
+        ("TOO_SHORT", refusal::TOO_SHORT),
+        ("BAD_ADDRESS", refusal::ADDRESS),
+        ("BAD_PROTOCOL", refusal::PROTOCOL),
+        ("BAD_DIGITS", refusal::DIGITS),
+        ("BAD_CALENDAR", refusal::CALENDAR),
+        ("CUT_TOO_LONG", refusal::TOO_LONG),
+        ("NO_KEY", refusal::NO_KEY),
+        ("BAD_BUFFER", refusal::BUFFER),
+        ("LONGEST_CUT", LONGEST_CUT),
+        ("TICKS_PER_SECOND", u32::from(PER_SECOND)),
+    ];
+    refusals.iter().for_each(|&(name, number)| same(name, number));
+    let places = [
+        ("IMAGE_LEN", IMAGE_LEN),
+        ("DIGITS_LEN", 5),
+        ("LINES_LEN", 1),
+        ("AT_REGISTERS", 0),
+        ("AT_SIXTEENTHS", SIXTEENTHS),
+        ("AT_FLAGS", FLAGS),
+        ("AT_INTERRUPT", INTERRUPT),
+        ("AT_PINS", PINS),
+        ("AT_CONFIGURATION", CONFIGURATION),
+        ("AT_REMOTE_SETUP", REMOTE_SETUP),
+        ("AT_GUARD_LEFT", GUARD_LEFT),
+        ("AT_WATCHDOG_LEFT", WATCHDOG_LEFT),
+        ("AT_HOT_KEYS", HOT_KEYS),
+        ("AT_LAST_SAMPLE", LAST_SAMPLE),
+        ("AT_ACCEPTED_KEYS", ACCEPTED_KEYS),
+        ("AT_KEY_STORE", KEY_STORE),
+        ("AT_REMOTE_FRESH", REMOTE_FRESH),
+        ("AT_REMOTE_ADDRESS", REMOTE_ADDRESS),
+        ("AT_REMOTE_COMMAND", REMOTE_COMMAND),
+        ("AT_DIGITS", DIGITS),
+        ("AT_DISPLAY_CONTROL", DISPLAY_CONTROL),
+        ("AT_DIGIT_BYTES", DIGIT_BYTES),
+        ("AT_UNUSED", UNUSED),
+        ("REG_RESERVED", RESERVED),
+        ("REG_SECONDS", SECONDS),
+        ("REG_MINUTES", MINUTES),
+        ("REG_HOURS", HOURS),
+        ("REG_DAY", DAY),
+        ("REG_DATE", DATE),
+        ("REG_CENTURY_MONTH", CENTURY_MONTH),
+        ("REG_YEAR", YEAR),
+        ("REG_CALIBRATION", CALIBRATION),
+        ("REG_WATCHDOG", WATCHDOG),
+        ("REG_AL_MONTH", AL_MONTH),
+        ("REG_AL_DATE", AL_DATE),
+        ("REG_AL_HOUR", AL_HOUR),
+        ("REG_AL_MIN", AL_MIN),
+        ("REG_AL_SEC", AL_SEC),
+        ("REG_AL_DAY", AL_DAY),
+    ];
+    places.iter().for_each(|&(name, place)| same(name, place as u32));
+    let bits = [
+        ("FLAG_ALARM", ALARM_FLAG),
+        ("FLAG_WATCHDOG", WATCHDOG_FLAG),
+        ("INT_KEY", 0x80),
+        ("INT_REMOTE", 0x40),
+        ("INT_WAKE_UP", 0x20),
+        ("INT_RTC", 0x10),
+        ("INT_STBY_KEY", 0x08),
+        ("INT_STBY_REMOTE", 0x04),
+        ("INT_STBY_WAKE_UP", 0x02),
+        ("INT_STBY_RTC", 0x01),
+        ("PIN_READY", READY),
+        ("PIN_WAKE_UP", WAKE_UP),
+        ("PIN_STBY", STBY),
+        ("LINE_STBY", LINE_STBY),
+        ("LINE_MUTE", LINE_MUTE),
+        ("LINE_IRQ", LINE_IRQ),
+        ("OSC_ST", OSC_ST),
+        ("MD_H", MD_H),
+        ("M_MS", M_MS),
+        ("CB", 0xC0),
+        ("12_24", TWELVE_HOURS),
+        ("CAL_SIGN", 0x20),
+        ("RB2", 0x80),
+        ("BMB", 0x7C),
+        ("RB1", 0x02),
+        ("RB0", 0x01),
+        ("AFE", AFE),
+        ("ABE", ABE),
+        ("RPT1", RPT1),
+        ("RPT2", RPT2),
+        ("RPT3", RPT3),
+        ("RPT4", RPT4),
+        ("RPT5", RPT5),
+        ("RPT6", RPT6),
+        ("WDFEN", WDFEN),
+        ("CMD_CONFIGURE", 0x00),
+        ("CMD_WRITE_DIGITS", 0x40),
+        ("CMD_WRITE_REGISTERS", 0x50),
+        ("CMD_READ_KEYS", 0x61),
+        ("CMD_READ_REMOTE", 0x62),
+        ("CMD_READ_INTERRUPT", 0x63),
+        ("CMD_READ_REGISTERS", 0x70),
+        ("CMD_DISPLAY", 0x80),
+        ("CMD_HOT_KEYS", 0xA0),
+        ("CMD_STANDBY", 0xC1),
+        ("CMD_RELOAD_GUARD", 0xC2),
+        ("CFG_GUARD_STBY", GUARD_TO_STBY),
+        ("CFG_ALL_HOT", ALL_KEYS_HOT),
+        ("CFG_REMOTE_WAKE", REMOTE_WAKES),
+        ("CFG_RTC_FACE", RTC_FACE),
+        ("CFG_SET_DIGITS", SETS_DIGITS),
+        ("CFG_WAKE_UP", WAKE_UP_COUNTS),
+        ("PROTOCOL_OFF", PROTOCOL_OFF << 4),
+        ("PROTOCOL_RC5", RC5 << 4),
+        ("PROTOCOL_NEC", NEC << 4),
+        ("DIGIT_1", 0x10),
+        ("DISPLAY_ON", DISPLAY_ON),
+        ("POINT", 0x80),
+        ("FILL", 0xFF),
+    ];
+    bits.iter().for_each(|&(name, bit)| same(name, u32::from(bit)));
+    assert!(header.is_empty(), "numbers of the header that nobody compares: {header:?}");
+}
