@@ -1,7 +1,7 @@
 -- Demand 2: the clock registers change by a tick that passes a second, an accepted 50h and power-up alone. Assumes nothing.
 use Prim.Native.Nat.{ℕ}
-use mathlib.Core.Path.{_≡_, refl, sym, ap, subst, _∙_}
-use mathlib.Core.Bool.{Bool, true, false, cond, _&&_, true≢false}
+use mathlib.Core.Path.{_≡_, refl, ap, _∙_}
+use mathlib.Core.Bool.{Bool, false, cond, true≢false}
 use mathlib.Core.List.{List, [], _∷_}
 use lib.Dec.{eqb}
 use borrow.Author.Tests.{eqb-true, eqb-false}
@@ -20,7 +20,7 @@ use Rattle.panel.specs.declared.Panel.{Panel}
 use Rattle.image.specs.Image.{registersIn, decoded}
 use Rattle.stled325.specs.Calls.{high, keyedBy}
 use Rattle.demands.specs.Event.{Event, powerUp, tick, sample, frame, ready, wakeUp, command, show, lines, Given, panelAfter, after, Valid}
-use Rattle.demands.specs.Clock.{writesClock, changesClock, Step, afterStep, afterAll, Quiet}
+use Rattle.demands.specs.Clock.{writesClock, changesClock, Step, afterAll, Quiet}
 use Rattle.demands.proofs.Refusals.{refused-untouched}
 use Rattle.demands.proofs.Commands.{write-byte, registers-executed}
 use Rattle.demands.proofs.Valid.{valid-sound, accepted-panel, stays-valid}

@@ -7,7 +7,7 @@ use mathlib.Core.List.{List, [], _∷_}
 use native.Mathlib.Omega.{arith}
 use lib.Dec.{eqb, ltb}
 use borrow.Author.Tests.{ltb-true, eq-eqb, ne-eqb}
-use Rattle.common.specs.Grounds.{Ground, firstGround, NoneHolds}
+use Rattle.common.specs.Grounds.{Ground, firstGround}
 use Rattle.common.proofs.Choice.{on-true, on-false, by-cases, and-left, and-right}
 use Rattle.common.proofs.Grounds.{numbered, ground-none, zero-none}
 use Rattle.common.proofs.Order.{lt-or-le}

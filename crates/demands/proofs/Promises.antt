@@ -4,7 +4,7 @@ use mathlib.Core.Path.{_≡_, refl}
 use mathlib.Core.List.{List, []}
 use Rattle.stled325.specs.Calls.{powerUpCall, tickCall, sampleCall, readyCall, wakeUpCall, frameCall, showCall, linesCall}
 use Rattle.stled325.specs.Command.{commandCall}
-use Rattle.demands.specs.Event.{Event, powerUp, tick, sample, frame, ready, wakeUp, command, show, lines, after}
+use Rattle.demands.specs.Event.{powerUp, tick, sample, frame, ready, wakeUp, command, show, lines, after}
 
 module _ (l : List ℕ) where
   pub power-up-promise : after powerUp l [] ≡ powerUpCall l

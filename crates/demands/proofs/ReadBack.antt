@@ -1,7 +1,7 @@
 -- Demand 2: a clock that is written is read back the same, reserved bits apart, until something changes it. Assumes nothing.
 use Prim.Native.Nat.{ℕ, zero, suc, _+_, _≤_, _<_}
 use mathlib.Core.Path.{_≡_, refl, sym, ap, _∙_}
-use mathlib.Core.Bool.{Bool, true, false, not, _||_}
+use mathlib.Core.Bool.{false, not, _||_}
 use mathlib.Core.Logic.{⊎-elim}
 use mathlib.Core.List.{List, [], _∷_, _++_}
 use native.Mathlib.Omega.{arith}
@@ -20,8 +20,7 @@ use Rattle.registers.proofs.Written.{written-length, written-at}
 use Rattle.effects.specs.Write.{registersWritten}
 use Rattle.output.specs.Output.{answered}
 use Rattle.panel.specs.declared.Panel.{Panel}
-use Rattle.image.specs.Image.{registersIn, decoded}
-use Rattle.stled325.specs.Outcome.{Outcome}
+use Rattle.image.specs.Image.{registersIn}
 use Rattle.demands.specs.Event.{Event, command, Given, after, Valid, stby}
 use Rattle.demands.specs.Clock.{Step, afterAll, Quiet}
 use Rattle.demands.proofs.Refusals.{accepted-leaves, grounds-exact}

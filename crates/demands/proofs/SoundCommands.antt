@@ -1,9 +1,9 @@
 -- Document 01, "The image": every accepted command leaves a sound panel sound. Assumes nothing.
-use Prim.Native.Nat.{ℕ, _+_, _-_, _*_, _/_, _%_, _^_, _≤_, _<_}
+use Prim.Native.Nat.{ℕ, _+_, _-_, _≤_, _<_}
 use mathlib.Core.Path.{_≡_, refl, sym, ap, subst, _∙_}
-use mathlib.Core.Bool.{Bool, true, false, not, _&&_, true≢false}
+use mathlib.Core.Bool.{true, false, true≢false}
 use mathlib.Core.Logic.{⊎-elim}
-use mathlib.Core.List.{List, [], _∷_}
+use mathlib.Core.List.{List}
 use native.Mathlib.Omega.{arith}
 use lib.Dec.{eqb, leb, ltb}
 use lib.ListN.{length, getD}
@@ -24,7 +24,7 @@ use Rattle.timekeeper.specs.Clock.{validCalendar}
 use Rattle.units.specs.declared.Sixteenths.{Sixteenths}
 use Rattle.controller.specs.declared.Core.{Core}
 use Rattle.controller.specs.State.{rtc, sixteenths}
-use Rattle.controller.specs.Sound.{Sound, SoundRtc}
+use Rattle.controller.specs.Sound.{Sound}
 use Rattle.properties.proofs.SoundParts.{sound-rtc, sound-power, sound-setup, sound-keys, sound-remote, sound-interrupt, sound-timers}
 use Rattle.properties.proofs.Sound.{sound-standbyBegun}
 use Rattle.effects.specs.Configure.{setupOf, configured, maskSet, guardReloaded}
@@ -33,7 +33,7 @@ use Rattle.effects.specs.Clear.{storeCleared, remoteCleared, interruptsCleared}
 use Rattle.panel.specs.declared.Panel.{Panel}
 use Rattle.panel.specs.Display.{digitsSet, displaySet, digitByte, digitsWritten}
 use Rattle.panel.specs.Execute.{dataOf, executed, writesNoCalendar}
-use Rattle.image.specs.Sound.{SoundDisplay, SoundPanel}
+use Rattle.image.specs.Sound.{SoundPanel}
 
 -- ---- The shared state
 

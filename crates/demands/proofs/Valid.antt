@@ -1,11 +1,11 @@
 -- Demand 1: from a valid image every event leaves a valid image. Assumes nothing.
 use Prim.Native.Nat.{ℕ, _<_}
 use mathlib.Core.Path.{_≡_, refl, sym, ap, subst, _∙_}
-use mathlib.Core.Bool.{Bool, true, false, not}
+use mathlib.Core.Bool.{false, not}
 use mathlib.Core.List.{List, [], _∷_, _++_}
 use native.Mathlib.Omega.{arith}
 use lib.Dec.{eqb}
-use lib.ListN.{length, getD}
+use lib.ListN.{length}
 use borrow.Author.Tests.{eqb-true, eqb-false, eq-eqb}
 use Rattle.common.specs.Grounds.{Ground, ground, NoneHolds}
 use Rattle.common.proofs.Choice.{by-cases}
@@ -26,13 +26,12 @@ use Rattle.panel.specs.declared.Panel.{Panel}
 use Rattle.panel.specs.PowerUp.{panelPoweredUp}
 use Rattle.panel.specs.Execute.{writesNoCalendar}
 use Rattle.image.specs.Image.{decoded, encoded}
-use Rattle.image.specs.Sound.{SoundDisplay, SoundPanel}
+use Rattle.image.specs.Sound.{SoundPanel}
 use Rattle.image.proofs.Bytes.{encoded-bytes}
 use Rattle.image.proofs.Laws.{decode-encode}
-use Rattle.validity.specs.Valid.{isValid}
 use Rattle.validity.proofs.Laws.{sound, encode-decode, valid-encoded}
 use Rattle.stled325.specs.Calls.{high, keyedBy}
-use Rattle.demands.specs.Event.{Event, powerUp, tick, sample, frame, ready, wakeUp, command, show, lines, Given, groundsOf, panelAfter, imageAfter, after, Valid}
+use Rattle.demands.specs.Event.{Event, powerUp, tick, sample, frame, ready, wakeUp, command, show, lines, Given, panelAfter, imageAfter, after, Valid}
 use Rattle.demands.proofs.Refusals.{refused-untouched, accepted-leaves, grounds-exact}
 use Rattle.demands.proofs.SoundCommands.{sound-executed}
 

@@ -2,11 +2,10 @@
 use Prim.Native.Nat.{ℕ, _<_}
 use mathlib.Core.Path.{_≡_}
 use mathlib.Core.Bool.{Bool, true}
-use mathlib.Core.List.{List, [], _∷_}
-use lib.ListN.{length, getD}
+use mathlib.Core.List.{List}
+use lib.ListN.{getD}
 use Rattle.common.specs.Grounds.{Ground}
 use Rattle.command.specs.Decode.{commandOf}
-use Rattle.controller.specs.declared.Core.{Core}
 use Rattle.controller.specs.Tick.{ticked}
 use Rattle.controller.specs.Keys.{sampled}
 use Rattle.controller.specs.Pins.{readySet, wakeUpSet}

@@ -1,5 +1,4 @@
 -- Document 01, "Standby begins" and "It ends": the causes, event by event.
-use Prim.Native.Nat.{ℕ}
 use mathlib.Core.Bool.{Bool, true, false}
 use lib.Dec.{eqb}
 use Rattle.command.specs.Codes.{STANDBY}
