@@ -19,6 +19,11 @@ pub total : yearsBefore 400 ≡ calendarDays
 unfolding yearsBefore sums yearLength monthsBefore monthLength leap
 total = refl
 
+-- a century has 36,525 days
+pub century : yearsBefore 100 ≡ 36_525
+unfolding yearsBefore sums yearLength monthsBefore monthLength leap
+century = refl
+
 -- months have from 28 to 31 days
 pub month-range : (b : Bool) (m : ℕ) → (28 ≤ monthLength b m) × (monthLength b m ≤ 31)
 unfolding monthLength

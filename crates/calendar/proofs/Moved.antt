@@ -14,7 +14,7 @@ use Rattle.calendar.specs.Carry.{atTime}
 use Rattle.calendar.proofs.Date.{date-at, number-at, year-most, below, year-of, month-of, date-of}
 
 -- ---- the constants of document 01
-cycle-is : cycle ≡ 12_623_040_000
+pub cycle-is : cycle ≡ 12_623_040_000
 cycle-is = refl
 
 -- ---- a clock by its fields

@@ -72,8 +72,8 @@ impl Core {
         ensures { λ r. ⌜ r ≡ poweredUp ⌝ }
     {
         let none = Sixteenths(0);
-        let load = Sixteenths(160);
         let value = Seconds(10);
+        let load = units::in_sixteenths(value);
         let rtc = Rtc {
             registers: [0, 0, 0, 0, 7, 1, 1, 0, 0, 0, 0, 0, 0, 0, 0, 0],
             sixteenths: none,

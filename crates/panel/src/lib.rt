@@ -7,7 +7,11 @@ ghost use Rattle.panel.specs.PowerUp.{panelPoweredUp};
 ghost use Rattle.panel.specs.Display.{digitsSet, displaySet, digitByte, digitsWritten};
 ghost use Rattle.panel.specs.Read.{outputAfter};
 ghost use Rattle.panel.specs.Execute.{dataOf, served, servedAs};
-ghost use Rattle.panel.specs.State.{withCore};
+ghost use Rattle.panel.specs.State.{withCore, onCore};
+ghost use Rattle.controller.specs.Tick.{ticked};
+ghost use Rattle.controller.specs.Keys.{sampled};
+ghost use Rattle.controller.specs.Remote.{keyed};
+ghost use Rattle.controller.specs.Pins.{readySet, wakeUpSet};
 ghost use Prim.Native.Nat.{min};
 use command::Command;
 use controller::Core;
@@ -131,6 +135,46 @@ impl Panel {
     {
         self.core = core;
         self
+    }
+
+    // A tick, a sixteenth of a second.
+    pub fn tick(self) -> Panel
+        ensures { λ r. ⌜ r ≡ onCore ticked self ⌝ }
+    {
+        let core = self.core;
+        self.with_core(core.tick())
+    }
+
+    // A key sample.
+    pub fn sample_keys(self, sample: u32) -> Panel
+        ensures { λ r. ⌜ r ≡ onCore (λ c. sampled c sample) self ⌝ }
+    {
+        let core = self.core;
+        self.with_core(core.sample_keys(sample))
+    }
+
+    // A remote key.
+    pub fn receive_key(self, address: u8, command: u8) -> Panel
+        ensures { λ r. ⌜ r ≡ onCore (λ c. keyed c address command) self ⌝ }
+    {
+        let core = self.core;
+        self.with_core(core.receive_key(address, command))
+    }
+
+    // The READY pin takes a level.
+    pub fn set_ready(self, level: bool) -> Panel
+        ensures { λ r. ⌜ r ≡ onCore (λ c. readySet c level) self ⌝ }
+    {
+        let core = self.core;
+        self.with_core(core.set_ready(level))
+    }
+
+    // The WAKE_UP pin takes a level.
+    pub fn set_wake_up(self, level: bool) -> Panel
+        ensures { λ r. ⌜ r ≡ onCore (λ c. wakeUpSet c level) self ⌝ }
+    {
+        let core = self.core;
+        self.with_core(core.set_wake_up(level))
     }
 
     // The panel after an accepted command, whose bytes are s; a write that leaves no valid calendar is 9.

@@ -120,5 +120,6 @@ module _ (l ns : List ℕ) (small : Small l) where
         weekday = λ v t. ap (λ (c : Clock). c .weekday) (runs l ns v small t) ∙ weekday-moved (clockIn l) (total ns);
         standing = λ v t. stands l ns v small t;
         flag = λ v. flag-is l ns v small;
+        whole = λ v t. after-is l ns v small ∙ sym (on-true (imageReturned l (total ns)) l t);
         single = λ v t h. one l ns v small t h;
       }

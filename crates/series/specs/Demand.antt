@@ -18,7 +18,7 @@ use Rattle.image.specs.Layout.{FLAGS, byteAt}
 use Rattle.validity.specs.Valid.{isValid}
 use Rattle.supply.specs.Return.{LIMIT}
 use Rattle.stled325.specs.Outcome.{outcome}
-use Rattle.stled325.specs.Calls.{supplyGrounds, supplyReturnCall}
+use Rattle.stled325.specs.Calls.{supplyGrounds, imageReturned, supplyReturnCall}
 use Rattle.series.specs.Series.{total, someAccepted, plainClock}
 
 -- the calendar with its weekday, the oscillator stop, and the alarm flag of an image
@@ -55,5 +55,7 @@ pub record Demand3 (l ns after answers : List ℕ) : Type 0 where
   pub standing : isValid l ≡ true → stoppedIn l ≡ true → clockIn after ≡ clockIn l
   -- the alarm flag is up exactly if it was up before or a second reached matches and counts
   pub flag : isValid l ≡ true → flagIn after ≡ (flagIn l || alarmReached l (total ns))
+  -- at least one accepted: the whole image is that of the state moved on by the sum, also above the limit
+  pub whole : isValid l ≡ true → someAccepted ns ≡ true → after ≡ imageReturned l (total ns)
   -- at least one accepted and the sum within the limit: byte for byte the image of a single return after the sum
   pub single : isValid l ≡ true → someAccepted ns ≡ true → total ns ≤ LIMIT → outcome 0 after [] ≡ supplyReturnCall l (total ns)

@@ -18,7 +18,7 @@ use Rattle.controller.specs.Remote.{keyed}
 use Rattle.display.specs.Shown.{shown}
 use Rattle.display.specs.Lines.{linesOf}
 use Rattle.panel.specs.declared.Panel.{Panel}
-use Rattle.panel.specs.State.{withCore, onCore}
+use Rattle.panel.specs.State.{onCore}
 use Rattle.panel.specs.PowerUp.{panelPoweredUp}
 use Rattle.image.specs.Image.{decoded, encoded}
 use Rattle.validity.specs.Valid.{isValid}
@@ -58,13 +58,13 @@ module _ (l : List ℕ) (v : Bool) (e : v ≡ isValid l) where
   call-refused gs o m q h = not-valid gs l o m q (bad h)
 
   module _ (h : not v ≡ false) (p : Panel) (ep : p ≡ decoded l) where
-    -- an event x of the shared state
-    stored : (event : Core → Core) (x : Core) (q : Panel) (m : List ℕ) → x ≡ event (p .core) → q ≡ withCore p x → m ≡ encoded q → m ≡ imageAfter event l
-    stored event x q m ex eq em = em ∙ ap encoded (eq ∙ ap (withCore p) ex ∙ ap (onCore event) ep)
+    -- an event of the shared state
+    stored : (event : Core → Core) (q : Panel) (m : List ℕ) → q ≡ onCore event p → m ≡ encoded q → m ≡ imageAfter event l
+    stored event q m eq em = em ∙ ap encoded (eq ∙ ap (onCore event) ep)
 
-    pub event-done : (event : Core → Core) (x : Core) (q : Panel) (m : List ℕ) → x ≡ event (p .core) → q ≡ withCore p x → m ≡ encoded q → outcome 0 m [] ≡ eventCall event l
-    event-done event x q m ex eq em =
-        ap (λ (y : List ℕ). outcome 0 y []) (stored event x q m ex eq em) ∙ accepted (eventGrounds l) l [] (imageAfter event l) [] (good h, tt)
+    pub event-done : (event : Core → Core) (q : Panel) (m : List ℕ) → q ≡ onCore event p → m ≡ encoded q → outcome 0 m [] ≡ eventCall event l
+    event-done event q m eq em =
+        ap (λ (y : List ℕ). outcome 0 y []) (stored event q m eq em) ∙ accepted (eventGrounds l) l [] (imageAfter event l) [] (good h, tt)
 
     module _ (frame : ℕ) (r : Received) (er : r ≡ keyOf (p .core .setup .protocol) frame) where
       is-received : r ≡ received l frame
@@ -76,9 +76,9 @@ module _ (l : List ℕ) (v : Bool) (e : v ≡ isValid l) where
           ∙ refused (frameGrounds l frame) l [] (imageAfter (keyedBy (received l frame)) l) [] 11 (λ (z : _≡_ {A = ℕ} 11 0). omega arith)
           (first-holds (isNoKey (received l frame)) 11 [] (ap isNoKey (sym is-received ∙ er′)) ∙ first-passed (not (isValid l)) 1 (ground 11 (isNoKey (received l frame)) ∷ []) (good h))
 
-      pub frame-done : (a k : ℕ) → r ≡ Key a k → (x : Core) (q : Panel) (m : List ℕ) → x ≡ keyed (p .core) a k → q ≡ withCore p x → m ≡ encoded q → outcome 0 m [] ≡ frameCall l frame
-      frame-done a k er′ x q m ex eq em =
-          ap (λ (y : List ℕ). outcome 0 y []) (stored (keyedBy (received l frame)) x q m (ex ∙ ap (λ (y : Received). keyedBy y (p .core)) (sym er′ ∙ is-received)) eq em)
+      pub frame-done : (a k : ℕ) → r ≡ Key a k → (q : Panel) (m : List ℕ) → q ≡ onCore (λ c. keyed c a k) p → m ≡ encoded q → outcome 0 m [] ≡ frameCall l frame
+      frame-done a k er′ q m eq em =
+          ap (λ (y : List ℕ). outcome 0 y []) (stored (keyedBy (received l frame)) q m (eq ∙ ap (λ (y : Received). onCore (keyedBy y) p) (sym er′ ∙ is-received)) em)
           ∙ accepted (frameGrounds l frame) l [] (imageAfter (keyedBy (received l frame)) l) [] (good h, (ap isNoKey (sym is-received ∙ er′), tt))
 
   -- ---- supply return

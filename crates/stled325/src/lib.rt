@@ -3,12 +3,10 @@ ghost use mathlib.Core.Path.{_≡_};
 ghost use mathlib.Core.List.{[]};
 ghost use lib.ListN.{length};
 ghost use Rattle.image.specs.Image.{decoded, encoded};
-ghost use Rattle.panel.specs.State.{withCore};
 ghost use Rattle.stled325.specs.Outcome.{outcome};
 ghost use Rattle.stled325.specs.Calls.{powerUpCall, tickCall, sampleCall, readyCall, wakeUpCall, frameCall, supplyReturnCall, showCall, linesCall, shownOf};
 ghost use Rattle.stled325.specs.Command.{commandCall};
 use command::Decoded;
-use controller::Core;
 use panel::Panel;
 use remote::Received;
 use units::Seconds;
@@ -27,14 +25,6 @@ fn store(image: &mut [u8], p: Panel)
     ensures { λ _. ⌜ now (image .exit) ≡ encoded p ⌝ }
 {
     image::save(image, image::encode(p));
-}
-
-// The panel with another shared state.
-fn with_core(mut p: Panel, core: Core) -> Panel
-    ensures { λ r. ⌜ r ≡ withCore p core ⌝ }
-{
-    p.core = core;
-    p
 }
 
 // The five bytes of show.
@@ -67,8 +57,7 @@ pub extern "C" fn stled325_tick(image: &mut [u8]) -> u32
         return 1;
     }
     let p = panel_in(image);
-    let core = p.core;
-    store(image, with_core(p, core.tick()));
+    store(image, p.tick());
     0
 }
 
@@ -80,8 +69,7 @@ pub extern "C" fn stled325_key_sample(image: &mut [u8], sample: u16) -> u32
         return 1;
     }
     let p = panel_in(image);
-    let core = p.core;
-    store(image, with_core(p, core.sample_keys(sample as u32)));
+    store(image, p.sample_keys(sample as u32));
     0
 }
 
@@ -93,8 +81,7 @@ pub extern "C" fn stled325_ready(image: &mut [u8], level: u32) -> u32
         return 1;
     }
     let p = panel_in(image);
-    let core = p.core;
-    store(image, with_core(p, core.set_ready(level != 0)));
+    store(image, p.set_ready(level != 0));
     0
 }
 
@@ -106,8 +93,7 @@ pub extern "C" fn stled325_wake_up(image: &mut [u8], level: u32) -> u32
         return 1;
     }
     let p = panel_in(image);
-    let core = p.core;
-    store(image, with_core(p, core.set_wake_up(level != 0)));
+    store(image, p.set_wake_up(level != 0));
     0
 }
 
@@ -119,12 +105,11 @@ pub extern "C" fn stled325_remote_frame(image: &mut [u8], frame: u32) -> u32
         return 1;
     }
     let p = panel_in(image);
-    let core = p.core;
-    let received = remote::key(core.setup.protocol, frame);
+    let received = remote::key(p.core.setup.protocol, frame);
     let Received::Key(address, command) = received else {
         return remote::refusal(received);
     };
-    store(image, with_core(p, core.receive_key(address, command)));
+    store(image, p.receive_key(address, command));
     0
 }
 

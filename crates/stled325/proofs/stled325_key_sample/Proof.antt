@@ -19,9 +19,6 @@ panel-in-requires c κs = search (needs, sized)
 sample-keys-requires : tie.Need-sample-keys-requires
 sample-keys-requires c κs = search needs
 
-with-core-requires : tie.Need-with-core-requires
-with-core-requires c κs = search needs
-
 store-requires : tie.Need-store-requires
 store-requires c κs = search (needs, sized)
 
@@ -39,7 +36,6 @@ stled325-key-sample-spec =
     returns
     panel-in-requires
     sample-keys-requires
-    with-core-requires
     store-requires
     same-length-2
     returns-2)

@@ -19,9 +19,6 @@ panel-in-requires c κs = search (needs, sized)
 set-ready-requires : tie.Need-set-ready-requires
 set-ready-requires c κs = search needs
 
-with-core-requires : tie.Need-with-core-requires
-with-core-requires c κs = search needs
-
 store-requires : tie.Need-store-requires
 store-requires c κs = search (needs, sized)
 
@@ -39,7 +36,6 @@ stled325-ready-spec =
     returns
     panel-in-requires
     set-ready-requires
-    with-core-requires
     store-requires
     same-length-2
     returns-2)

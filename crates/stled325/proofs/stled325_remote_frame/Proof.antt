@@ -37,21 +37,14 @@ returns-2 c = search (needs, frame-refused)
 receive-key-requires : tie.Need-receive-key-requires
 receive-key-requires c κs = search needs
 
-with-core-requires : tie.Need-with-core-requires
-with-core-requires c κs = search needs
-
 store-requires : tie.Need-store-requires
-store-requires c κs =
-    let t = c .before .before .before .before .before .before .before .before .before .before in sized _ _ (t .before .is-valid .ensures) (t .if1 .left)
+store-requires c κs = search (needs, sized)
 
 same-length-3 : tie.Need-same-length-3
 same-length-3 c = search needs
 
 returns-3 : tie.Need-returns-3
-returns-3 c =
-    let t = c .before .before .before .before .before .before .before .before .before .before .before in
-    frame-done _ _ (t .before .before .before .is-valid .ensures) (t .before .before .if1 .left) _ (t .panel-in .ensures) _ _ (c .before .before .before .before .before .before .before .before .before .key .ensures) _ _
-    (c .before .before .before .before .before .before .before .received .given .1) _ _ _ (c .before .before .before .before .receive-key .ensures) (c .before .before .before .with-core .ensures) (c .before .before .store .ensures)
+returns-3 c = search (needs, frame-done)
 
 pub stled325-remote-frame-spec : {M : Type 1} → statement M
 stled325-remote-frame-spec =
@@ -67,7 +60,6 @@ stled325-remote-frame-spec =
     same-length-2
     returns-2
     receive-key-requires
-    with-core-requires
     store-requires
     same-length-3
     returns-3)

@@ -19,9 +19,6 @@ panel-in-requires c κs = search (needs, sized)
 set-wake-up-requires : tie.Need-set-wake-up-requires
 set-wake-up-requires c κs = search needs
 
-with-core-requires : tie.Need-with-core-requires
-with-core-requires c κs = search needs
-
 store-requires : tie.Need-store-requires
 store-requires c κs = search (needs, sized)
 
@@ -39,7 +36,6 @@ stled325-wake-up-spec =
     returns
     panel-in-requires
     set-wake-up-requires
-    with-core-requires
     store-requires
     same-length-2
     returns-2)
