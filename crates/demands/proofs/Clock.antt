@@ -1,4 +1,4 @@
--- Demand 2: the clock registers change by a tick that passes a second, an accepted 50h and power-up alone. Assumes nothing.
+-- Demand 2: the clock registers change by a tick that passes a second, an accepted 50h, power-up and supply return alone. Assumes nothing.
 use Prim.Native.Nat.{ℕ}
 use mathlib.Core.Path.{_≡_, refl, ap, _∙_}
 use mathlib.Core.Bool.{Bool, false, cond, true≢false}
@@ -19,7 +19,7 @@ use Rattle.properties.proofs.Kept.{registers-ticked, rtc-sampled, rtc-keyed, rt
 use Rattle.panel.specs.declared.Panel.{Panel}
 use Rattle.image.specs.Image.{registersIn, decoded}
 use Rattle.stled325.specs.Calls.{high, keyedBy}
-use Rattle.demands.specs.Event.{Event, powerUp, tick, sample, frame, ready, wakeUp, command, show, lines, Given, panelAfter, after, Valid}
+use Rattle.demands.specs.Event.{Event, powerUp, tick, sample, frame, ready, wakeUp, command, show, lines, supplyReturn, Given, panelAfter, after, Valid}
 use Rattle.demands.specs.Clock.{writesClock, changesClock, Step, afterAll, Quiet}
 use Rattle.demands.proofs.Refusals.{refused-untouched}
 use Rattle.demands.proofs.Commands.{write-byte, registers-executed}
@@ -48,6 +48,7 @@ module _ {l : List ℕ} (v : Valid l) where
   kept-each (command s) n = registers-executed (decoded l) s (commandOf s) (write-byte (byte s 0) (byte s 1) (byte s 2) ∙ n)
   kept-each show n = refl
   kept-each lines n = refl
+  kept-each (supplyReturn k) n = absurd (true≢false n)
 
   -- ---- EVERY OTHER EVENT, refused ones among them, leaves the sixteen registers as they were
 

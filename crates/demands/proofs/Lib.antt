@@ -7,3 +7,4 @@ pub mod Commands
 pub mod Standby
 pub mod Clock
 pub mod ReadBack
+pub mod Examples

@@ -2,9 +2,9 @@
 use Prim.Native.Nat.{ℕ}
 use mathlib.Core.Path.{_≡_, refl}
 use mathlib.Core.List.{List, []}
-use Rattle.stled325.specs.Calls.{powerUpCall, tickCall, sampleCall, readyCall, wakeUpCall, frameCall, showCall, linesCall}
+use Rattle.stled325.specs.Calls.{powerUpCall, tickCall, sampleCall, readyCall, wakeUpCall, frameCall, supplyReturnCall, showCall, linesCall}
 use Rattle.stled325.specs.Command.{commandCall}
-use Rattle.demands.specs.Event.{powerUp, tick, sample, frame, ready, wakeUp, command, show, lines, after}
+use Rattle.demands.specs.Event.{powerUp, tick, sample, frame, ready, wakeUp, command, show, lines, supplyReturn, after}
 
 module _ (l : List ℕ) where
   pub power-up-promise : after powerUp l [] ≡ powerUpCall l
@@ -33,3 +33,6 @@ module _ (l : List ℕ) where
 
   pub lines-promise : (o : List ℕ) → after lines l o ≡ linesCall l o
   lines-promise o = refl
+
+  pub supply-return-promise : (n : ℕ) → after (supplyReturn n) l [] ≡ supplyReturnCall l n
+  supply-return-promise n = refl

@@ -10,7 +10,7 @@ use Rattle.common.proofs.Choice.{of-cond}
 use Rattle.common.proofs.Grounds.{numbered}
 use Rattle.command.specs.Refusals.{groundsBy}
 use Rattle.stled325.specs.Outcome.{Outcome, outcome, decided}
-use Rattle.demands.specs.Event.{Event, powerUp, tick, sample, frame, ready, wakeUp, command, show, lines, groundsOf, imageAfter, replyAfter, after}
+use Rattle.demands.specs.Event.{Event, powerUp, tick, sample, frame, ready, wakeUp, command, show, lines, supplyReturn, groundsOf, imageAfter, replyAfter, after}
 use Rattle.demands.specs.Exact.{rising, Exact}
 use Rattle.demands.proofs.Exact.{exact}
 
@@ -66,6 +66,7 @@ grounds-rise (wakeUp level) l o = refl
 grounds-rise (command s) l o = refl
 grounds-rise show l o = refl
 grounds-rise lines l o = refl
+grounds-rise (supplyReturn n) l o = refl
 
 grounds-numbered : (e : Event) (l o : List ℕ) → numbered (groundsOf e l o) ≡ true
 unfolding groundsBy
@@ -78,6 +79,7 @@ grounds-numbered (wakeUp level) l o = refl
 grounds-numbered (command s) l o = refl
 grounds-numbered show l o = refl
 grounds-numbered lines l o = refl
+grounds-numbered (supplyReturn n) l o = refl
 
 pub grounds-exact : (e : Event) (l o : List ℕ) → Exact (after e l o .number) (groundsOf e l o)
 grounds-exact e l o = exact (after e l o .number) (groundsOf e l o) (grounds-rise e l o) (grounds-numbered e l o) (number-first e l o)

@@ -17,7 +17,7 @@ use Rattle.properties.proofs.Standby.{stby-ticked, stby-sampled, stby-keyed, st
 use Rattle.panel.specs.declared.Panel.{Panel}
 use Rattle.image.specs.Image.{decoded}
 use Rattle.stled325.specs.Calls.{high, isNoKey, keyedBy}
-use Rattle.demands.specs.Event.{Event, powerUp, tick, sample, frame, ready, wakeUp, command, show, lines, Given, panelAfter, after, Valid, stby}
+use Rattle.demands.specs.Event.{Event, powerUp, tick, sample, frame, ready, wakeUp, command, show, lines, supplyReturn, Given, panelAfter, after, Valid, stby}
 use Rattle.demands.specs.Exact.{Exactly}
 use Rattle.demands.specs.Standby.{begins, ends}
 use Rattle.demands.proofs.Refusals.{refused-untouched, grounds-exact}
@@ -63,6 +63,7 @@ module _ {l : List ℕ} (v : Valid l) where
       ∙ ap (λ (b : Bool). cond b true (begins (command s) c)) (sym (command-awake s l o a))
   after-each show o a = same (stby l)
   after-each lines o a = same (stby l)
+  after-each (supplyReturn n) o a = lowered (stby l)
 
   module _ (e : Event) (g : Given e) (o : List ℕ) where
     -- ---- AN ACCEPTED EVENT

@@ -30,8 +30,9 @@ use Rattle.image.specs.Sound.{SoundPanel}
 use Rattle.image.proofs.Bytes.{encoded-bytes}
 use Rattle.image.proofs.Laws.{decode-encode}
 use Rattle.validity.proofs.Laws.{sound, encode-decode, valid-encoded}
+use Rattle.supply.proofs.Sound.{sound-returned}
 use Rattle.stled325.specs.Calls.{high, keyedBy}
-use Rattle.demands.specs.Event.{Event, powerUp, tick, sample, frame, ready, wakeUp, command, show, lines, Given, panelAfter, imageAfter, after, Valid}
+use Rattle.demands.specs.Event.{Event, powerUp, tick, sample, frame, ready, wakeUp, command, show, lines, supplyReturn, Given, panelAfter, imageAfter, after, Valid}
 use Rattle.demands.proofs.Refusals.{refused-untouched, accepted-leaves, grounds-exact}
 use Rattle.demands.proofs.SoundCommands.{sound-executed}
 
@@ -110,6 +111,7 @@ module _ {l : List ℕ} (v : Valid l) where
   sound-after (command s) g o a = sound-executed h s g (length o) (command-awake s l o a) (commandOf s) (command-holds s l o a) (command-writes s l o a)
   sound-after show g o a = h
   sound-after lines g o a = h
+  sound-after (supplyReturn n) g o a = sound-returned n (decoded l) h
 
   -- ---- The image of a valid image's event is that of the panel after it
 
@@ -123,6 +125,7 @@ module _ {l : List ℕ} (v : Valid l) where
   image-after (command s) = refl
   image-after show = sym (encode-decode l (v .valid) (v .bytes))
   image-after lines = sym (encode-decode l (v .valid) (v .bytes))
+  image-after (supplyReturn n) = refl
 
   module _ (e : Event) (g : Given e) (o : List ℕ) (a : after e l o .number ≡ 0) where
     accepted-image : after e l o .image ≡ encoded (panelAfter e (decoded l))

@@ -9,9 +9,9 @@ use Rattle.command.specs.Refusals.{byte}
 use Rattle.controller.specs.declared.Core.{Core}
 use Rattle.properties.specs.Causes.{secondPasses}
 use Rattle.image.specs.Image.{decoded}
-use Rattle.demands.specs.Event.{Event, powerUp, tick, sample, frame, ready, wakeUp, command, show, lines, Given, after}
+use Rattle.demands.specs.Event.{Event, powerUp, tick, sample, frame, ready, wakeUp, command, show, lines, supplyReturn, Given, after}
 
--- power-up, a tick that passes a second, and 50h
+-- power-up, supply return, a tick that passes a second, and 50h
 abbrev pub writesClock : Event → Core → Bool
 writesClock powerUp c = true
 writesClock tick c = secondPasses c
@@ -22,6 +22,7 @@ writesClock (wakeUp level) c = false
 writesClock (command s) c = eqb (byte s 0) WRITE-REGISTERS
 writesClock show c = false
 writesClock lines c = false
+writesClock (supplyReturn n) c = true
 
 -- one of them that is accepted
 abbrev pub changesClock : Event → List ℕ → List ℕ → Bool

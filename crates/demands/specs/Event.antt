@@ -15,11 +15,12 @@ use Rattle.panel.specs.State.{onCore}
 use Rattle.panel.specs.PowerUp.{panelPoweredUp}
 use Rattle.panel.specs.Read.{outputAfter}
 use Rattle.panel.specs.Execute.{executed}
+use Rattle.supply.specs.Return.{panelReturned}
 use Rattle.image.specs.Layout.{byteAt}
 use Rattle.image.specs.Image.{decoded, encoded}
 use Rattle.validity.specs.Valid.{isValid}
 use Rattle.stled325.specs.Outcome.{Outcome, decided}
-use Rattle.stled325.specs.Calls.{powerUpGrounds, eventGrounds, high, keyedBy, frameGrounds, viewGrounds, shownOf, linesIn}
+use Rattle.stled325.specs.Calls.{powerUpGrounds, eventGrounds, high, keyedBy, frameGrounds, supplyGrounds, viewGrounds, shownOf, linesIn}
 use Rattle.stled325.specs.Command.{commandGrounds}
 
 -- ---- Events
@@ -34,6 +35,7 @@ pub data Event : Type 0 where
   command : List ℕ → Event
   show : Event
   lines : Event
+  supplyReturn : ℕ → Event
 
 -- the numbers that a call can be given: samples of 16 bits, commands of bytes
 abbrev pub Given : Event → Type 0
@@ -46,6 +48,7 @@ Given (wakeUp level) = Unit
 Given (command s) = (i : ℕ) → getD s i 0 < 256
 Given show = Unit
 Given lines = Unit
+Given (supplyReturn n) = Unit
 
 -- ---- What an event does
 
@@ -60,6 +63,7 @@ groundsOf (wakeUp level) l o = eventGrounds l
 groundsOf (command s) l o = commandGrounds l s o
 groundsOf show l o = viewGrounds 5 l o
 groundsOf lines l o = viewGrounds 1 l o
+groundsOf (supplyReturn n) l o = supplyGrounds l n
 
 -- the panel after it, where it is accepted
 abbrev pub panelAfter : Event → Panel → Panel
@@ -72,6 +76,7 @@ panelAfter (wakeUp level) p = onCore (λ c. wakeUpSet c (high level)) p
 panelAfter (command s) p = executed p (commandOf s) s
 panelAfter show p = p
 panelAfter lines p = p
+panelAfter (supplyReturn n) p = panelReturned n p
 
 -- the image after it, where it is accepted; show and lines leave it as it is
 abbrev pub imageAfter : Event → List ℕ → List ℕ
@@ -84,6 +89,7 @@ imageAfter (wakeUp level) l = encoded (panelAfter (wakeUp level) (decoded l))
 imageAfter (command s) l = encoded (panelAfter (command s) (decoded l))
 imageAfter show l = l
 imageAfter lines l = l
+imageAfter (supplyReturn n) l = encoded (panelAfter (supplyReturn n) (decoded l))
 
 -- the output after it, where it is accepted; a call without an output leaves any as it is
 abbrev pub replyAfter : Event → List ℕ → List ℕ → List ℕ
@@ -96,6 +102,7 @@ replyAfter (wakeUp level) l o = o
 replyAfter (command s) l o = outputAfter (decoded l .core) (commandOf s) o
 replyAfter show l o = shownOf (decoded l)
 replyAfter lines l o = linesIn (decoded l .core)
+replyAfter (supplyReturn n) l o = o
 
 -- THE OUTCOME of an event on an image and an output
 abbrev pub after : Event → List ℕ → List ℕ → Outcome
