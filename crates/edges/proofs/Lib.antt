@@ -1,0 +1,3 @@
+pub mod Daily
+pub mod Computed
+pub mod Readings
