@@ -2,10 +2,11 @@
 use Prim.Native.Nat.{ℕ, zero, suc, _+_, _%_, _≤_, _<_}
 use mathlib.Core.Path.{_≡_, refl, sym, ap, subst, _∙_}
 use mathlib.Core.Bool.{Bool, true, false, cond, not, _&&_, _||_, and-false, or-false}
-use mathlib.Core.List.{List, [], _∷_}
+use mathlib.Core.List.{List, [], _∷_, map}
 use native.Mathlib.Omega.{arith}
 use borrow.Author.Tests.{le-leb}
 use Rattle.common.specs.Bits.{bitSet}
+use Rattle.common.specs.Grounds.{firstGround}
 use Rattle.common.proofs.Choice.{on-true, on-false, of-cond, by-cases}
 use Rattle.calendar.specs.declared.Clock.{Clock}
 use Rattle.calendar.specs.Clock.{Valid, count, cycle, multiples, weekdayOn, moved}
@@ -25,8 +26,8 @@ use Rattle.validity.proofs.Laws.{sound}
 use Rattle.supply.specs.Return.{LIMIT, registersReturned, matchCounts, flagsReturned}
 use Rattle.supply.proofs.Returns.{clock-stopped, clock-running, flag-returned}
 use Rattle.stled325.specs.Outcome.{outcome}
-use Rattle.stled325.specs.Calls.{imageReturned, supplyReturnCall}
-use Rattle.series.specs.Series.{imageAfter, numbers, within, total, someAccepted, plainClock}
+use Rattle.stled325.specs.Calls.{supplyGrounds, imageReturned, supplyReturnCall}
+use Rattle.series.specs.Series.{imageAfter, numbers, noted, within, total, someAccepted, plainClock}
 use Rattle.series.specs.Demand.{clockIn, stoppedIn, flagIn, alarmReached, Demand3}
 use Rattle.series.proofs.Series.{Small, call-done, returned-valid, holds, none-total, after-is, after-bad, numbers-bad, numbers-good}
 
@@ -108,10 +109,13 @@ module _ (l ns : List ℕ) (small : Small l) where
   untouched f =
       by-cases (imageAfter l ns ≡ l) (isValid l) (λ v. after-is l ns v small ∙ sym (on-false (imageReturned l (total ns)) l f)) (λ v. after-bad l ns v)
 
-  pub series : Demand3 l ns (imageAfter l ns) (numbers l ns)
-  series =
+  numbers-are : numbers l ns ≡ map (λ n. firstGround (supplyGrounds l n)) ns
+  numbers-are = by-cases _ (isValid l) (λ v. numbers-good l ns v small) (λ v. numbers-bad l ns v)
+
+  pub series : (before : List ℕ) → Demand3 l ns before (imageAfter l ns) (noted before (numbers l ns))
+  series before =
       record {
-        refusals = by-cases _ (isValid l) (λ v. numbers-good l ns v small) (λ v. numbers-bad l ns v);
+        refusals = ap (noted before) numbers-are;
         invalid-start = λ v. after-bad l ns v;
         none-accepted = untouched;
         valid-end = λ v. either l ns v small (λ (x : List ℕ). isValid x ≡ true) (returned-valid l v small (total ns)) (λ z. v);

@@ -1,4 +1,4 @@
--- Demand 3, of a series of supply returns after ns from the image l, which leaves the image after and gives the numbers answers.
+-- Demand 3, of a series of supply returns after ns from the image l, which leaves the image after, and its numbers in answers, which held before.
 use Prim.Native.Nat.{ℕ, _+_, _%_, _≤_}
 use mathlib.Core.Path.{_≡_}
 use mathlib.Core.Bool.{Bool, true, false, not, _&&_, _||_}
@@ -19,7 +19,7 @@ use Rattle.validity.specs.Valid.{isValid}
 use Rattle.supply.specs.Return.{LIMIT}
 use Rattle.stled325.specs.Outcome.{outcome}
 use Rattle.stled325.specs.Calls.{supplyGrounds, imageReturned, supplyReturnCall}
-use Rattle.series.specs.Series.{total, someAccepted, plainClock}
+use Rattle.series.specs.Series.{noted, total, someAccepted, plainClock}
 
 -- the calendar with its weekday, the oscillator stop, and the alarm flag of an image
 abbrev pub clockIn : List ℕ → Clock
@@ -36,9 +36,9 @@ abbrev pub alarmReached : List ℕ → ℕ → Bool
 alarmReached l n =
     not (stoppedIn l) && (AFE (registersIn l) && ABE (registersIn l)) && anyReached (matches (alarmOf (registersIn l))) (clockIn l) n
 
-pub record Demand3 (l ns after answers : List ℕ) : Type 0 where
+pub record Demand3 (l ns before after answers : List ℕ) : Type 0 where
   -- each return is refused exactly on the refusal table's grounds, the first true one giving its number
-  pub refusals : answers ≡ map (λ n. firstGround (supplyGrounds l n)) ns
+  pub refusals : answers ≡ noted before (map (λ n. firstGround (supplyGrounds l n)) ns)
   -- from an image that is not valid nothing is accepted and nothing changes
   pub invalid-start : isValid l ≡ false → after ≡ l
   -- no return accepted: the image is as it was

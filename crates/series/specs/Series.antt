@@ -18,6 +18,12 @@ unfoldable pub numbers : List ℕ → List ℕ → List ℕ
 numbers l [] = []
 numbers l (n ∷ ns) = supplyReturnCall l n .number ∷ numbers (supplyReturnCall l n .image) ns
 
+-- answers with the numbers written over them from the first place on, as far as there are places
+unfoldable pub noted : List ℕ → List ℕ → List ℕ
+noted [] ns = []
+noted (a ∷ rest) [] = a ∷ rest
+noted (a ∷ rest) (n ∷ ns) = n ∷ noted rest ns
+
 -- n is within the limit
 abbrev pub within : ℕ → Bool
 within n = leb n LIMIT
