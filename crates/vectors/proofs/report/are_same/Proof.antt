@@ -1,0 +1,50 @@
+use Prim.Native.Nat.{_≤_, _-_}
+use lib.ListN.{length}
+use borrow.Author.Needs.{needs}
+use Rattle.vectors.proofs.report.are_same.Statement.{statement}
+use Rattle.vectors.proofs.report.are_same.Tie as tie
+
+abbrev Inv-loop : tie.InvT-loop
+Inv-loop mark got want same₀ i₀ same i = i ≤ length got
+
+abbrev μ-loop : tie.MeasureT-loop
+μ-loop mark got want same₀ i₀ same i = length got - i
+
+loop-holds : tie.Need-loop-holds Inv-loop μ-loop
+loop-holds c = search needs
+
+shared-slice-read-is-same : tie.Need-shared-slice-read-is-same Inv-loop μ-loop
+shared-slice-read-is-same c = search needs
+
+shared-slice-read-is-same-2 : tie.Need-shared-slice-read-is-same-2 Inv-loop μ-loop
+shared-slice-read-is-same-2 c = search needs
+
+is-same-requires : tie.Need-is-same-requires Inv-loop μ-loop
+is-same-requires c κs = search needs
+
+add-i : tie.Need-add-i Inv-loop μ-loop
+add-i c = search needs
+
+loop-less : tie.Need-loop-less Inv-loop μ-loop
+loop-less c = search needs
+
+loop-again : tie.Need-loop-again Inv-loop μ-loop
+loop-again c = search needs
+
+returns : tie.Need-returns Inv-loop μ-loop
+returns c = search needs
+
+pub are-same-spec : {M : Type 1} → statement M
+are-same-spec =
+    tie.close
+    (tie.spec
+    Inv-loop
+    μ-loop
+    loop-holds
+    shared-slice-read-is-same
+    shared-slice-read-is-same-2
+    is-same-requires
+    add-i
+    loop-less
+    loop-again
+    returns)

@@ -1,0 +1,156 @@
+// An example: its title, what is given, and the calls with what they should give.
+//
+// Two images stand in one slice, the one that is lent to the calls and then what it should be. Each has 64 bytes, one too many, and how many of
+// them are lent.
+use crate::calls;
+use crate::report;
+use crate::text;
+use stled325::stled325_power_up;
+ghost use Prim.Native.Nat.{_≤_};
+
+// No example is open; one is, and all went as written; one is, and failed.
+pub const NONE: u8 = 0;
+
+const OPEN: u8 = 1;
+
+const FAILED: u8 = 2;
+
+// The place of an image that has the number of the bytes lent.
+const LENT: usize = 65;
+
+const IMAGE: usize = 66;
+
+const IMAGES: usize = 132;
+
+// The open example ends.
+pub fn close(status: u8) {
+    if status == OPEN {
+        report::print(b" ok");
+    }
+    if status != NONE {
+        report::print(b"\n");
+    }
+}
+
+// The power-up image, lent whole.
+fn reset(image: &mut [u8]) {
+    text::store(image, LENT, 64);
+    if 64 <= image.len() {
+        stled325_power_up(&mut image[0..64]);
+    }
+}
+
+// The title prints, and both images start from power-up.
+fn open(line: &[u8], images: &mut [u8]) -> u8 {
+    report::print(line);
+    reset(images);
+    if IMAGE <= images.len() {
+        reset(&mut images[IMAGE..]);
+    }
+    OPEN
+}
+
+fn failed(line: &[u8]) -> u8 {
+    report::print(b" FAILED\n  ");
+    report::print(line);
+    FAILED
+}
+
+// Changes both images.
+fn given(line: &[u8], images: &mut [u8], status: u8) -> u8 {
+    let changes = text::part(line, text::find(line, b' '), line.len());
+    let end = text::fill(changes, images, 0);
+    text::fill(changes, images, IMAGE);
+    if end == text::UNREADABLE {
+        failed(line)
+    } else {
+        status
+    }
+}
+
+// A number below 100 as two decimal digits.
+fn coded(n: u32) -> u8 {
+    (n / 10 % 10 * 16 + n % 10) as u8
+}
+
+fn at_most(x: u8, most: usize) -> usize
+    ensures { λ r. ⌜ r ≤ most ⌝ }
+{
+    let n = x as usize;
+    if n < most { n } else { most }
+}
+
+// Makes the call.
+fn made(word: u8, arguments: &[u8], images: &mut [u8], out: &mut [u8]) -> u32 {
+    if images.len() <= LENT {
+        return 0;
+    }
+    let lent = at_most(images[LENT], LENT);
+    calls::call(word, &mut images[0..lent], arguments, out)
+}
+
+// Makes the call; its number, and then its output up to a place, are what is got.
+fn make(word: u8, arguments: &[u8], images: &mut [u8], got: &mut [u8], end: usize) {
+    if end < 1 {
+        return;
+    }
+    if got.len() < end {
+        return;
+    }
+    let number = made(word, arguments, images, &mut got[1..end]);
+    text::store(got, 0, coded(number));
+}
+
+// Whether the call gives the number and the output that are written. EEh stands in the output where nothing is written.
+fn is_answered(word: u8, arguments: &[u8], answer: &[u8], images: &mut [u8]) -> bool {
+    let mut written = [0xEEu8; 25];
+    let mut got = [0xEEu8; 25];
+    let end = text::fill(answer, &mut written, 0);
+    make(word, arguments, images, &mut got, end);
+    report::are_same(b" >", &got, &written)
+}
+
+// Whether the image is what it should be.
+fn is_right(images: &[u8]) -> bool {
+    if images.len() < IMAGES {
+        return false;
+    }
+    report::are_same(b" @", &images[0..IMAGE], &images[IMAGE..IMAGES])
+}
+
+// Makes the call of a line and compares.
+fn call(line: &[u8], word: u8, images: &mut [u8], status: u8) -> u8 {
+    let space = text::find(line, b' ');
+    let arrow = text::find(line, b'>');
+    let bar = text::find(line, b'|');
+    let end = text::fill(text::part(line, bar, line.len()), images, IMAGE);
+    let answered = is_answered(
+        word,
+        text::part(line, space, arrow),
+        text::part(line, arrow, bar),
+        images,
+    );
+    let right = is_right(images);
+    if answered & right & (end != text::UNREADABLE) {
+        status
+    } else {
+        failed(line)
+    }
+}
+
+// Runs one line.
+pub fn run_line(line: &[u8], images: &mut [u8], status: u8) -> u8 {
+    if line.len() == 0 {
+        return status;
+    }
+    let word = line[0];
+    match word {
+        b'#' => status,
+        b'g' => given(line, images, status),
+        b'0'..=b'9' => {
+            close(status);
+            open(line, images)
+        }
+        _ => call(line, word, images, status),
+    }
+}

@@ -1,0 +1,122 @@
+// The text of a line: numbers, and bytes as pairs of hexadecimal digits.
+ghost use Prim.Native.Nat.{_≤_};
+ghost use lib.ListN.{length};
+
+// What is no digit.
+const NONE: u8 = 16;
+
+// What fill answers where a text has anything but bytes and places.
+pub const UNREADABLE: usize = 1000;
+
+// The value of a hexadecimal digit.
+fn digit(c: u8) -> u8
+    ensures { λ r. ⌜ r ≤ 16 ⌝ }
+{
+    match c {
+        b'0'..=b'9' => c - b'0',
+        b'A'..=b'F' => c - b'A' + 10,
+        _ => NONE,
+    }
+}
+
+// The first place of a character, or the length.
+pub fn find(text: &[u8], c: u8) -> usize
+    ensures { λ r. ⌜ r ≤ length (now (text .entry)) ⌝ }
+{
+    let mut i = 0;
+    while i < text.len() {
+        if text[i] == c {
+            return i;
+        }
+        i += 1;
+    }
+    i
+}
+
+// A part of a text, empty where it is none.
+pub fn part(text: &[u8], from: usize, to: usize) -> &[u8] {
+    if from > to {
+        return &text[0..0];
+    }
+    if to > text.len() {
+        return &text[0..0];
+    }
+    &text[from..to]
+}
+
+pub fn wide(d: u8) -> u64
+    ensures { λ r. ⌜ r ≤ 255 ⌝ }
+{
+    d as u64
+}
+
+// A number with a further character, which counts if it is a digit.
+fn with_character(number: u64, c: u8, hexadecimal: bool) -> u64 {
+    let d = digit(c);
+    if d == NONE {
+        return number;
+    }
+    let n = number % 4_294_967_296;
+    if hexadecimal {
+        return n * 16 + wide(d);
+    }
+    n * 10 + wide(d)
+}
+
+// The number that the digits of a text make.
+pub fn number(text: &[u8], hexadecimal: bool) -> u64 {
+    let mut n = 0;
+    let mut i = 0;
+    while i < text.len() {
+        n = with_character(n, text[i], hexadecimal);
+        i += 1;
+    }
+    n
+}
+
+pub fn store(bytes: &mut [u8], at: usize, byte: u8) {
+    if at < bytes.len() {
+        bytes[at] = byte;
+    }
+}
+
+// The byte of two digits.
+fn pair(high: u8, low: u8) -> usize {
+    let h = digit(high);
+    let l = digit(low);
+    if (h == NONE) | (l == NONE) {
+        return UNREADABLE;
+    }
+    (h % 16 * 16 + l % 16) as usize
+}
+
+// Stores a byte, or goes to the place behind @. The answer is where the next byte goes.
+fn put(bytes: &mut [u8], mark: u8, at: usize, from: usize, value: usize) -> usize {
+    if mark == b'@' {
+        return from % 256 + value % 256 / 16 * 10 + value % 16;
+    }
+    store(bytes, at, (value % 256) as u8);
+    at % 256 + 1
+}
+
+// Puts the bytes of a text into a slice, from a place on. The answer is the place after the last byte.
+pub fn fill(text: &[u8], bytes: &mut [u8], from: usize) -> usize {
+    let mut at = from;
+    let mut i = 0;
+    while i < text.len() {
+        if text.len() - i < 3 {
+            return at;
+        }
+        if (text[i + 1] == b' ') | (text[i + 1] == b'@') {
+            i += 1;
+        } else {
+            let value = pair(text[i + 1], text[i + 2]);
+            if value == UNREADABLE {
+                return UNREADABLE;
+            }
+            at = put(bytes, text[i], at, from, value);
+            i += 3;
+        }
+    }
+    at
+}
