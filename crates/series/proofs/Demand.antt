@@ -1,4 +1,4 @@
--- THE THEOREM of demand 3: what holds of a series of supply returns, as one statement. Assumes nothing.
+-- THE THEOREM of demand 3: what holds of a series of supply returns, as one statement. Assumes only that the image's elements are bytes.
 use Prim.Native.Nat.{ℕ, zero, suc, _+_, _%_, _≤_, _<_}
 use mathlib.Core.Path.{_≡_, refl, sym, ap, subst, _∙_}
 use mathlib.Core.Bool.{Bool, true, false, cond, not, _&&_, _||_, and-false, or-false}
@@ -28,8 +28,8 @@ use Rattle.supply.proofs.Returns.{clock-stopped, clock-running, flag-returned}
 use Rattle.stled325.specs.Outcome.{outcome}
 use Rattle.stled325.specs.Calls.{supplyGrounds, imageReturned, supplyReturnCall}
 use Rattle.series.specs.Series.{imageAfter, numbers, noted, within, total, someAccepted, plainClock}
-use Rattle.series.specs.Demand.{clockIn, stoppedIn, flagIn, alarmReached, Demand3}
-use Rattle.series.proofs.Series.{Small, call-done, returned-valid, holds, none-total, after-is, after-bad, numbers-bad, numbers-good}
+use Rattle.series.specs.Demand.{clockIn, stoppedIn, flagIn, alarmReached, Bytes, Demand3}
+use Rattle.series.proofs.Series.{call-done, within-accepted, returned-valid, holds, none-total, after-is, after-bad, numbers-bad, numbers-good}
 
 -- ---- the plain clock over a series
 plain-stopped : (c : Clock) (ns : List ℕ) → plainClock true c ns ≡ c
@@ -52,7 +52,7 @@ plain-running c (n ∷ ns) v = by (within n) (plain-running (moved c n) ns (move
     by false p q = let e : total ns ≡ 0 + total ns = omega arith in q ∙ ap (moved c) e
 
 -- ---- the series from a valid image
-module _ (l ns : List ℕ) (v : isValid l ≡ true) (small : Small l) where
+module _ (l ns : List ℕ) (v : isValid l ≡ true) (small : Bytes l) where
   abbrev after : List ℕ
   after = imageAfter l ns
 
@@ -104,7 +104,7 @@ module _ (l ns : List ℕ) (v : isValid l ≡ true) (small : Small l) where
       ∙ sym (call-done l (total ns) v (le-leb (total ns) LIMIT h))
 
 -- ---- DEMAND 3
-module _ (l ns : List ℕ) (small : Small l) where
+module _ (l ns : List ℕ) (small : Bytes l) where
   untouched : someAccepted ns ≡ false → imageAfter l ns ≡ l
   untouched f =
       by-cases (imageAfter l ns ≡ l) (isValid l) (λ v. after-is l ns v small ∙ sym (on-false (imageReturned l (total ns)) l f)) (λ v. after-bad l ns v)
@@ -115,7 +115,10 @@ module _ (l ns : List ℕ) (small : Small l) where
   pub series : (before : List ℕ) → Demand3 l ns before (imageAfter l ns) (noted before (numbers l ns))
   series before =
       record {
-        refusals = ap (noted before) numbers-are;
+        steps = refl;
+        answered = refl;
+        refusals = numbers-are;
+        accepted = λ v n. within-accepted l n v;
         invalid-start = λ v. after-bad l ns v;
         none-accepted = untouched;
         valid-end = λ v. either l ns v small (λ (x : List ℕ). isValid x ≡ true) (returned-valid l v small (total ns)) (λ z. v);

@@ -5,7 +5,7 @@ use mathlib.Core.Bool.{Bool, true, false, cond, not, _&&_, _||_, or-false, true�
 use mathlib.Core.List.{List, [], _∷_, _++_, map}
 use native.Mathlib.Nat.{add-zero}
 use native.Mathlib.Omega.{arith}
-use lib.Dec.{leb, ltb}
+use lib.Dec.{leb, ltb, eqb}
 use lib.ListN.{length, getD}
 use borrow.Author.Tests.{le-leb, lt-leb, leb-true, leb-false, lt-ltb, le-ltb, ltb-true, ltb-false, eq-eqb}
 use Rattle.common.specs.Bits.{bitSet}
@@ -33,10 +33,7 @@ use Rattle.stled325.specs.Outcome.{Outcome, outcome}
 use Rattle.stled325.specs.Calls.{supplyGrounds, imageReturned, supplyReturnCall}
 use Rattle.stled325.proofs.Decided.{accepted, refused, decided-number, first-holds, first-passed, not-valid}
 use Rattle.series.specs.Series.{imageAfter, numbers, within, total, someAccepted, plainClock}
-use Rattle.series.specs.Demand.{clockIn, stoppedIn, flagIn, alarmReached, Demand3}
-
-abbrev pub Small : List ℕ → Type 0
-Small l = (i : ℕ) → byteAt l i < 256
+use Rattle.series.specs.Demand.{clockIn, stoppedIn, flagIn, alarmReached, Bytes, Demand3}
 
 -- ---- one return by its cases
 module _ (l : List ℕ) (n : ℕ) where
@@ -54,6 +51,13 @@ module _ (l : List ℕ) (n : ℕ) where
   number-is : supplyReturnCall l n .number ≡ firstGround (supplyGrounds l n)
   number-is = decided-number (supplyGrounds l n) l [] (imageReturned l n) []
 
+  -- accepted exactly within the limit
+  pub within-accepted : isValid l ≡ true → within n ≡ eqb (firstGround (supplyGrounds l n)) 0
+  within-accepted v =
+      by-cases (within n ≡ eqb (firstGround (supplyGrounds l n)) 0) (within n)
+      (λ t. t ∙ ap (λ (k : ℕ). eqb k 0) (sym (ap (λ (x : Outcome). x .number) (call-done v t)) ∙ number-is))
+      (λ f. f ∙ ap (λ (k : ℕ). eqb k 0) (sym (ap (λ (x : Outcome). x .number) (call-over v f)) ∙ number-is))
+
   -- the image is the returned one, or as it was
   image-is : isValid l ≡ true → supplyReturnCall l n .image ≡ cond (within n) (imageReturned l n) l
   image-is v =
@@ -70,14 +74,14 @@ length-call l n =
     (λ v. ap (λ (x : Outcome). length (x .image)) (call-bad l n v))
 
 -- ---- the image after one accepted return
-module _ (l : List ℕ) (v : isValid l ≡ true) (small : Small l) (n : ℕ) where
+module _ (l : List ℕ) (v : isValid l ≡ true) (small : Bytes l) (n : ℕ) where
   state : SoundPanel (decoded l)
   state = sound l v small
 
   pub returned-valid : isValid (imageReturned l n) ≡ true
   returned-valid = valid-encoded (panelReturned n (decoded l)) (sound-returned n (decoded l) state)
 
-  pub returned-small : Small (imageReturned l n)
+  pub returned-small : Bytes (imageReturned l n)
   returned-small = encoded-bytes (panelReturned n (decoded l)) (sound-returned n (decoded l) state)
 
   pub holds : decoded (imageReturned l n) ≡ panelReturned n (decoded l)
@@ -101,7 +105,7 @@ none-total (n ∷ ns) e = by (within n) e (λ p. none-total ns p)
     by false p h = omega (arith, h p)
 
 -- ---- THE IMAGE after a series: that of one return after the sum, or as it was
-pub after-is : (l ns : List ℕ) → isValid l ≡ true → Small l → imageAfter l ns ≡ cond (someAccepted ns) (imageReturned l (total ns)) l
+pub after-is : (l ns : List ℕ) → isValid l ≡ true → Bytes l → imageAfter l ns ≡ cond (someAccepted ns) (imageReturned l (total ns)) l
 unfolding imageAfter someAccepted total
 after-is l [] v small = refl
 after-is l (n ∷ ns) v small = by-cases (imageAfter (supplyReturnCall l n .image) ns ≡ cond (within n || someAccepted ns) (imageReturned l (cond (within n) n 0 + total ns)) l) (within n)
@@ -138,7 +142,7 @@ numbers-bad l [] v = refl
 numbers-bad l (n ∷ ns) v =
     (λ i. number-is l n i ∷ (ap (λ (x : List ℕ). numbers x ns) (ap (λ (x : Outcome). x .image) (call-bad l n v)) ∙ numbers-bad l ns v) i)
 
-pub numbers-good : (l ns : List ℕ) → isValid l ≡ true → Small l → numbers l ns ≡ map (λ n. firstGround (supplyGrounds l n)) ns
+pub numbers-good : (l ns : List ℕ) → isValid l ≡ true → Bytes l → numbers l ns ≡ map (λ n. firstGround (supplyGrounds l n)) ns
 unfolding numbers
 numbers-good l [] v small = refl
 numbers-good l (n ∷ ns) v small =

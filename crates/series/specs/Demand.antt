@@ -1,8 +1,9 @@
 -- Demand 3, of a series of supply returns after ns from the image l, which leaves the image after, and its numbers in answers, which held before.
-use Prim.Native.Nat.{ℕ, _+_, _%_, _≤_}
+use Prim.Native.Nat.{ℕ, _+_, _%_, _≤_, _<_}
 use mathlib.Core.Path.{_≡_}
 use mathlib.Core.Bool.{Bool, true, false, not, _&&_, _||_}
 use mathlib.Core.List.{List, [], map}
+use lib.Dec.{eqb}
 use Rattle.common.specs.Bits.{bitSet}
 use Rattle.common.specs.Grounds.{firstGround}
 use Rattle.calendar.specs.declared.Clock.{Clock}
@@ -19,7 +20,7 @@ use Rattle.validity.specs.Valid.{isValid}
 use Rattle.supply.specs.Return.{LIMIT}
 use Rattle.stled325.specs.Outcome.{outcome}
 use Rattle.stled325.specs.Calls.{supplyGrounds, imageReturned, supplyReturnCall}
-use Rattle.series.specs.Series.{noted, total, someAccepted, plainClock}
+use Rattle.series.specs.Series.{imageAfter, numbers, noted, within, total, someAccepted, plainClock}
 
 -- the calendar with its weekday, the oscillator stop, and the alarm flag of an image
 abbrev pub clockIn : List ℕ → Clock
@@ -36,9 +37,18 @@ abbrev pub alarmReached : List ℕ → ℕ → Bool
 alarmReached l n =
     not (stoppedIn l) && (AFE (registersIn l) && ABE (registersIn l)) && anyReached (matches (alarmOf (registersIn l))) (clockIn l) n
 
+-- what a lent image always is
+abbrev pub Bytes : List ℕ → Type 0
+Bytes l = (i : ℕ) → byteAt l i < 256
+
 pub record Demand3 (l ns before after answers : List ℕ) : Type 0 where
-  -- each return is refused exactly on the refusal table's grounds, the first true one giving its number
-  pub refusals : answers ≡ noted before (map (λ n. firstGround (supplyGrounds l n)) ns)
+  -- each return is made on the image that the one before it left, and its number is answered
+  pub steps : after ≡ imageAfter l ns
+  pub answered : answers ≡ noted before (numbers l ns)
+  -- each is refused exactly on the refusal table's grounds, the first true one giving its number
+  pub refusals : numbers l ns ≡ map (λ n. firstGround (supplyGrounds l n)) ns
+  -- so from a valid image those within the limit are the accepted ones
+  pub accepted : isValid l ≡ true → (n : ℕ) → within n ≡ eqb (firstGround (supplyGrounds l n)) 0
   -- from an image that is not valid nothing is accepted and nothing changes
   pub invalid-start : isValid l ≡ false → after ≡ l
   -- no return accepted: the image is as it was

@@ -10,8 +10,8 @@ use borrow.Author.Needs.{needs}
 use Rattle.stled325.specs.Outcome.{Outcome, outcome}
 use Rattle.stled325.specs.Calls.{supplyReturnCall}
 use Rattle.series.specs.Series.{imageAfter, numbers, noted}
-use Rattle.series.specs.Demand.{Demand3}
-use Rattle.series.proofs.Series.{Small, length-call}
+use Rattle.series.specs.Demand.{Bytes, Demand3}
+use Rattle.series.proofs.Series.{length-call}
 use Rattle.series.proofs.Demand.{series}
 use Rattle.series.proofs.supply_series.Statement.{statement}
 use Rattle.series.proofs.supply_series.Tie as tie
@@ -78,7 +78,7 @@ turn l ns a image answers next said i r h g e f =
     one-more : take i ns ++ (getD ns i 0 ∷ []) ≡ take (i + 1) ns
     one-more = sym (take-suc ns i 0 h) ∙ ap (λ (k : ℕ). take k ns) (sym (add-one i))
 
-finish : (l ns a image answers : List ℕ) (i : ℕ) → Small l → length ns ≤ i → Gone l ns a image answers i → Demand3 l ns a image answers
+finish : (l ns a image answers : List ℕ) (i : ℕ) → Bytes l → length ns ≤ i → Gone l ns a image answers i → Demand3 l ns a image answers
 finish l ns a image answers i small h g =
     subst (λ (x : List ℕ). Demand3 l ns a x answers) (sym (g .image-is ∙ ap (imageAfter l) (take-all i ns h)))
     (subst (λ (y : List ℕ). Demand3 l ns a (imageAfter l ns) y) (sym (g .answers-are ∙ ap (λ (x : List ℕ). noted a (numbers l x)) (take-all i ns h))) (series l ns small a))
