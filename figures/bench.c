@@ -18,8 +18,13 @@
 #define CHECKED_CALLS 400000ul
 #define AIM 2.0
 
-struct timed {
-    double first_ns, second_ns;
+/* The runs of one call of one side. */
+struct series {
+    const struct side *side;
+    const struct call *call;
+    uint8_t start[STLED325_IMAGE_LEN];
+    unsigned long batches;
+    double ns[RUNS];
 };
 
 static double now_ns(void)
@@ -92,51 +97,76 @@ static void prepare(const struct scene *scene, uint8_t *image)
     }
 }
 
-/* The medians of two sides, their runs interleaved. */
-static struct timed measure(const struct side *const sides[2], const struct scene *scene)
+/* Calibrates one series of runs. */
+static void begin(struct series *series, const struct side *side, const struct scene *scene)
 {
-    uint8_t image[STLED325_IMAGE_LEN];
-    unsigned long batches[2];
-    double values[2][RUNS];
-    struct timed timed;
-    int run, s;
-
-    prepare(scene, image);
-    for (s = 0; s < 2; s++)
-        batches[s] = batches_for(sides[s], &scene->call, image);
-    for (run = 0; run < RUNS; run++)
-        for (s = 0; s < 2; s++)
-            values[s][run] = run_ns(sides[s], &scene->call, image, batches[s]) / (double)(batches[s] * BATCH);
-    timed.first_ns = median(values[0]);
-    timed.second_ns = median(values[1]);
-    return timed;
+    series->side = side;
+    series->call = &scene->call;
+    prepare(scene, series->start);
+    series->batches = batches_for(side, series->call, series->start);
 }
 
-static const struct side *const compared[2] = {&archive, &baseline};
-static const struct side *const empty[2] = {&nothing, &nothing};
+/* Every series has its first run, then every one its second: a slow moment of the machine falls on all of them. */
+static void measure(struct series *series, size_t count)
+{
+    size_t i;
+    int run;
+
+    for (run = 0; run < RUNS; run++)
+        for (i = 0; i < count; i++)
+            series[i].ns[run] = run_ns(series[i].side, series[i].call, series[i].start, series[i].batches) /
+                                (double)(series[i].batches * BATCH);
+}
+
+static double median_of(const struct series *series)
+{
+    double ns[RUNS];
+
+    memcpy(ns, series->ns, sizeof ns);
+    return median(ns);
+}
+
+/* The median of the ratios of runs that were taken one after the other, so that the machine's changes of speed fall out. */
+static double median_ratio(const struct series *first, const struct series *second)
+{
+    double ratios[RUNS];
+    int run;
+
+    for (run = 0; run < RUNS; run++)
+        ratios[run] = first->ns[run] / second->ns[run];
+    return median(ratios);
+}
+
+/* Prints a row of the table; true if it is within the aim. */
+static int print_row(const struct scene *scene, const struct series *proved, const struct series *by_hand)
+{
+    double ratio = median_ratio(proved, by_hand);
+    const char *bold = ratio > AIM ? "**" : "";
+
+    printf("| `%s` | %s | %.1f | %.1f | %s%.2f%s |\n", kind_name(scene->call.kind), scene->what,
+           median_of(proved), median_of(by_hand), bold, ratio, bold);
+    return ratio <= AIM;
+}
 
 static void print_calls(void)
 {
-    size_t i, within = 0;
-    double largest = 0;
+    static struct series series[2 * MOST_SCENES + 1];
+    size_t i;
+    unsigned within = 0;
 
+    for (i = 0; i < scene_count; i++) {
+        begin(&series[2 * i], &archive, &scenes[i]);
+        begin(&series[2 * i + 1], &baseline, &scenes[i]);
+    }
+    begin(&series[2 * scene_count], &nothing, &scenes[1]);
+    measure(series, 2 * scene_count + 1);
     puts("| call | case | archive, ns | C, ns | archive / C |");
     puts("|---|---|--:|--:|--:|");
-    for (i = 0; i < scene_count; i++) {
-        struct timed timed = measure(compared, &scenes[i]);
-        double ratio = timed.first_ns / timed.second_ns;
-        int missed = ratio > AIM;
-
-        within += !missed;
-        largest = ratio > largest ? ratio : largest;
-        printf("| `%s` | %s | %.1f | %.1f | %s%.2f%s |\n", kind_name(scenes[i].call.kind), scenes[i].what,
-               timed.first_ns, timed.second_ns, missed ? "**" : "", ratio, missed ? "**" : "");
-        fflush(stdout);
-    }
-    printf("\nWithin twice of C: %u of %u rows; the largest ratio is %.2f. Rows in bold miss the aim.\n",
-           (unsigned)within, (unsigned)scene_count, largest);
+    for (i = 0; i < scene_count; i++)
+        within += (unsigned)print_row(&scenes[i], &series[2 * i], &series[2 * i + 1]);
+    printf("\nWithin twice of C: %u of %u rows. Rows in bold miss the aim.\n", within, (unsigned)scene_count);
     printf("A function that does nothing takes %.1f ns in the same loop, which every figure includes.\n",
-           measure(empty, &scenes[1]).first_ns);
+           median_of(&series[2 * scene_count]));
 }
 
 static void print_registers(const uint8_t *image)
@@ -151,14 +181,17 @@ static void print_registers(const uint8_t *image)
 static void print_cut(const char *name, const struct scene *scene)
 {
     uint8_t image[STLED325_IMAGE_LEN], out[MOST_BYTES];
+    struct series series;
 
+    begin(&series, &archive, scene);
+    measure(&series, 1);
     prepare(scene, image);
     printf("%s ", name);
     print_registers(image);
     make_calls(&archive, &scene->call, image, 1, out);
     putchar(' ');
     print_registers(image);
-    printf(" %d %.0f\n", image[STLED325_AT_FLAGS] & STLED325_FLAG_ALARM, measure(compared, scene).first_ns);
+    printf(" %d %.0f\n", image[STLED325_AT_FLAGS] & STLED325_FLAG_ALARM, median_of(&series));
 }
 
 int main(int argc, char **argv)

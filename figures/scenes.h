@@ -12,6 +12,8 @@ struct scene {
     uint32_t answer;
 };
 
+#define MOST_SCENES 64
+
 extern const struct scene scenes[];
 extern const size_t scene_count;
 
