@@ -199,7 +199,8 @@ int main(int argc, char **argv)
     if (argc == 2 && strcmp(argv[1], "check") == 0) {
         if (!check_agreement(CHECKED_CALLS))
             return 1;
-        printf("Archive and C gave the same number, image and output in %lu random calls.\n", CHECKED_CALLS);
+        printf("Archive and C gave the same number, image and output in %lu,%03lu random calls.\n",
+               CHECKED_CALLS / 1000, CHECKED_CALLS % 1000);
     } else if (argc == 2 && strcmp(argv[1], "calls") == 0) {
         print_calls();
     } else if (argc == 2 && strcmp(argv[1], "cuts") == 0) {
