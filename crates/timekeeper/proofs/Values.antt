@@ -1,11 +1,15 @@
 -- The definitions as the code computes them, value by value: one law for each function that calls others. Assumes nothing.
-use Prim.Native.Nat.{ℕ, _+_, _*_, _/_, _%_}
+use Prim.Native.Nat.{ℕ, _+_, _*_, _/_, _%_, _≤_}
 use mathlib.Core.Path.{_≡_, sym, ap, _∙_}
-use mathlib.Core.Bool.{Bool, true, false, _&&_}
-use mathlib.Core.List.{List, _∷_}
+use mathlib.Core.Bool.{Bool, true, false, not, _&&_}
+use mathlib.Core.List.{List, [], _∷_}
+use native.Mathlib.Omega.{arith}
+use lib.Dec.{leb}
+use borrow.Author.Tests.{le-leb, lt-leb, leb-true, leb-false, not-true, not-false}
 use Rattle.common.specs.Tests.{conj}
 use Rattle.common.specs.Spell.{spell}
-use Rattle.common.proofs.Choice.{on-true, on-false}
+use Rattle.common.proofs.Choice.{on-true, on-false, by-cases}
+use Rattle.common.proofs.Tests.{each}
 use Rattle.calendar.specs.declared.Clock.{Clock}
 use Rattle.calendar.specs.Date.{leap, monthLength}
 use Rattle.calendar.specs.Clock.{fullYear}
@@ -24,12 +28,53 @@ unfolding clockOf
 clock-from rs k y m d w h n s ek ey em ed ew eh en es =
     λ i. record { century = ek i; year = ey i; month = em i; date = ed i; weekday = ew i; hour = eh i; minute = en i; second = es i }
 
-pub valid-from : (rs : List ℕ) (c : Clock) (leapyear : Bool) (last : ℕ) (decimal ranges : Bool) → c ≡ clockOf rs → leapyear ≡ leap (fullYear c) → last ≡ monthLength leapyear (c .month)
-    → decimal ≡ conj (decimalTests (fieldBytes rs)) → ranges ≡ conj (rangeTests c last) → (decimal && ranges) ≡ validCalendar rs
-unfolding validCalendar
-valid-from rs c l n d r ec el en ed er =
-    (λ i. ed i && (er ∙ ap (λ (last : ℕ). conj (rangeTests c last)) (en ∙ ap (λ (b : Bool). monthLength b (c .month)) el)) i)
-    ∙ ap (λ (x : Clock). conj (decimalTests (fieldBytes rs)) && conj (rangeTests x (lastDate x))) ec
+-- ---- Validity
+
+module _ (b hi lo : ℕ) (low : b % 16 ≤ 9) (h : lo ≤ 9) where
+  -- bytes of two decimal digits are in the order of their numbers
+  pub digits-le : leb b (hi * 16 + lo) ≡ leb (digits b) (hi * 10 + lo)
+  digits-le =
+      by-cases (leb b (hi * 16 + lo) ≡ leb (digits b) (hi * 10 + lo)) (leb b (hi * 16 + lo))
+      (λ t. t ∙ sym (le-leb (digits b) (hi * 10 + lo) (omega (arith, leb-true b (hi * 16 + lo) t))))
+      (λ f. f ∙ sym (lt-leb (digits b) (hi * 10 + lo) (omega (arith, leb-false b (hi * 16 + lo) f))))
+
+digits-some : (b : ℕ) → leb 1 b ≡ leb 1 (digits b)
+digits-some b =
+    by-cases (leb 1 b ≡ leb 1 (digits b)) (leb 1 b)
+    (λ t. t ∙ sym (le-leb 1 (digits b) (omega (arith, leb-true 1 b t))))
+    (λ f. f ∙ sym (lt-leb 1 (digits b) (omega (arith, leb-false 1 b f))))
+
+module _ (rs : List ℕ) (decimal : Bool) (ed : decimal ≡ conj (decimalTests (fieldBytes rs))) where
+  pub no-digits : not decimal ≡ true → false ≡ validCalendar rs
+  unfolding validCalendar
+  no-digits h = ap (λ (b : Bool). b && conj (rangeTests (clockOf rs) (lastDate (clockOf rs)))) (sym (not-true decimal h) ∙ ed)
+
+  pub in-digits : not decimal ≡ false → (date month year century last : ℕ) (leapyear : Bool) → date ≡ digits (at rs DATE) → month ≡ digits (at rs MONTH % 64) → year ≡ digits (at rs YEAR)
+      → century ≡ at rs MONTH / 64 → leapyear ≡ leap (100 * century + year) → last ≡ monthLength leapyear month
+      → conj (leb (at rs SECONDS % 128) 0x59 ∷ leb (at rs MINUTES) 0x59 ∷ leb (at rs HOURS % 64) 0x23 ∷ leb 1 (at rs WEEKDAY) ∷ leb (at rs WEEKDAY) 7 ∷ leb 1 date ∷ leb date last ∷ leb 1 month ∷ leb month 12 ∷ leb year 99 ∷ [])
+      ≡ validCalendar rs
+  unfolding validCalendar clockOf
+  in-digits h d m y k n l edate em ey ek el en =
+      (λ i. conj (
+      digits-le (at rs SECONDS % 128) 5 9 (leb-true _ _ (each (decimalTests (fieldBytes rs)) all 1)) (omega arith) i
+      ∷ digits-le (at rs MINUTES) 5 9 (leb-true _ _ (each (decimalTests (fieldBytes rs)) all 3)) (omega arith) i
+      ∷ digits-le (at rs HOURS % 64) 2 3 (leb-true _ _ (each (decimalTests (fieldBytes rs)) all 5)) (omega arith) i
+      ∷ digits-some (at rs WEEKDAY) i
+      ∷ digits-le (at rs WEEKDAY) 0 7 (leb-true _ _ (each (decimalTests (fieldBytes rs)) all 7)) (omega arith) i
+      ∷ leb 1 (edate i)
+      ∷ leb (edate i) (last i)
+      ∷ leb 1 (em i)
+      ∷ leb (em i) 12
+      ∷ leb (ey i) 99
+      ∷ []
+      ))
+      ∙ ap (λ (b : Bool). b && conj (rangeTests (clockOf rs) (lastDate (clockOf rs)))) (sym all)
+    where
+      all : conj (decimalTests (fieldBytes rs)) ≡ true
+      all = sym ed ∙ not-false decimal h
+
+      last : n ≡ lastDate (clockOf rs)
+      last = en ∙ (λ i. monthLength ((el ∙ (λ j. leap (100 * ek j + ey j))) i) (em i))
 
 pub with-from : (rs : List ℕ) (c : Clock) (s second minute h hour weekday date month year : ℕ) → s ≡ bcd (c .second) → second ≡ underB7 (at rs SECONDS) s → minute ≡ bcd (c .minute)
     → h ≡ bcd (c .hour) → hour ≡ underB7B6 (at rs HOURS) h → weekday ≡ bcd (c .weekday) → date ≡ bcd (c .date) → month ≡ bcd (c .month) → year ≡ bcd (c .year)

@@ -3,7 +3,7 @@ ghost use mathlib.Core.Path.{_≡_};
 ghost use Prim.Native.Nat.{_/_};
 ghost use Rattle.common.specs.Tests.{conj};
 ghost use Rattle.timekeeper.specs.Bcd.{digits, bcd, decimalTests};
-ghost use Rattle.timekeeper.specs.Clock.{fieldBytes, clockOf, rangeTests, validCalendar, underB7, underB7B6, withClock};
+ghost use Rattle.timekeeper.specs.Clock.{fieldBytes, clockOf, validCalendar, underB7, underB7B6, withClock};
 ghost use Rattle.timekeeper.specs.Alarm.{fieldOf, alarmOf};
 ghost use Rattle.timekeeper.specs.Commit.{committed};
 use alarm::Alarm;
@@ -93,30 +93,28 @@ fn decimal_fields(registers: [u8; 16]) -> bool
         & (year % 16 <= 9)
 }
 
-// Whether each field is in range, the date up to last.
-fn in_ranges(c: Clock, last: u32) -> bool
-    ensures { λ r. ⌜ r ≡ conj (rangeTests c last) ⌝ }
-{
-    (c.second <= 59)
-        & (c.minute <= 59)
-        & (c.hour <= 23)
-        & (1 <= c.weekday)
-        & (c.weekday <= 7)
-        & (1 <= c.date)
-        & (c.date <= last)
-        & (1 <= c.month)
-        & (c.month <= 12)
-        & (c.year <= 99)
-}
-
-// Whether the registers hold a calendar that exists.
+// Whether the registers hold a calendar that exists. Bytes of two decimal digits are in the order of their numbers.
 pub fn valid(registers: [u8; 16]) -> bool
     ensures { λ r. ⌜ r ≡ validCalendar registers ⌝ }
 {
-    let c = clock_of(registers);
-    let leapyear = calendar::is_leap(c.century, c.year);
-    let last = calendar::month_length(leapyear, c.month);
-    decimal_fields(registers) & in_ranges(c, last)
+    if !decimal_fields(registers) {
+        return false;
+    }
+    let date = number(registers[DATE]);
+    let month = number(registers[MONTH] % 64);
+    let year = number(registers[YEAR]);
+    let leapyear = calendar::is_leap(century(registers[MONTH]), year);
+    let last = calendar::month_length(leapyear, month);
+    (registers[SECONDS] % 128 <= 0x59)
+        & (registers[MINUTES] <= 0x59)
+        & (registers[HOURS] % 64 <= 0x23)
+        & (1 <= registers[WEEKDAY])
+        & (registers[WEEKDAY] <= 7)
+        & (1 <= date)
+        & (date <= last)
+        & (1 <= month)
+        & (month <= 12)
+        & (year <= 99)
 }
 
 // A byte below the flag in b7.
