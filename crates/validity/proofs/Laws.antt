@@ -1,18 +1,15 @@
 -- A valid image holds a sound state and is that state's image; the image of a sound state is valid. Assumes nothing.
 use Prim.Native.Nat.{ℕ, _+_, _*_, _/_, _%_, _^_, _≤_, _<_}
 use native.Mathlib.Omega.{arith}
-use native.Mathlib.Nat.{le-of-eq}
 use mathlib.Core.Path.{_≡_, refl, sym, ap, _∙_}
 use mathlib.Core.Bool.{Bool, true, false, not, _||_}
 use mathlib.Core.List.{List, [], _∷_}
-use lib.ListN.{length, getD, drop, replicate, length-drop}
-use lib.Seq.{take-all}
+use lib.ListN.{length, getD, replicate}
 use lib.Dec.{eqb, ltb, leb}
-use borrow.Author.Tests.{ltb-true, leb-true, eqb-true, lt-ltb, le-leb, eq-eqb}
+use borrow.Author.Tests.{ltb-true, leb-true, eqb-true, lt-ltb, le-leb, eq-eqb, ne-eqb}
 use Rattle.common.specs.Tests.{conj}
 use Rattle.common.specs.Spell.{spell}
 use Rattle.common.proofs.Each.{done, _also_}
-use Rattle.common.proofs.Spell.{spell-part}
 use Rattle.common.proofs.Tests.{each, all-hold}
 use Rattle.controller.specs.Sound.{Sound, SoundRtc, SoundSetup, SoundPower, SoundKeys, SoundRemote}
 use Rattle.panel.specs.declared.Panel.{Panel}
@@ -23,7 +20,7 @@ use Rattle.image.specs.Sound.{SoundDisplay, SoundPanel}
 use Rattle.image.proofs.Numbers.{lines-small}
 use Rattle.image.proofs.Bytes.{spelt-byte}
 use Rattle.image.proofs.Laws.{Whole, encode-decode-whole, decode-encode}
-use Rattle.validity.specs.Valid.{allZero, unnamedTests, rangeTests, stateTests, validTests, isValid}
+use Rattle.validity.specs.Valid.{unnamedTests, tailTests, rangeTests, stateTests, validTests, isValid}
 use Rattle.validity.proofs.Zero.{zeros}
 
 -- ---- What the tests say
@@ -35,6 +32,10 @@ zero-unless x n h e = eqb-true n 0 (rw e at h)
 unless-zero : (x : Bool) (n : ℕ) → (x ≡ true → n ≡ 0) → (not x || eqb n 0) ≡ true
 unless-zero true n h = eq-eqb n 0 (h refl)
 unless-zero false n h = refl
+
+pub not-sized : (l : List ℕ) → (length l ≡ SIZE → ⊥) → isValid l ≡ false
+unfolding isValid
+not-sized l n = ap (λ (b : Bool). conj (b ∷ conj (unnamedTests l) ∷ conj (tailTests l) ∷ conj (stateTests (decoded l)) ∷ [])) (ne-eqb (length l) SIZE n)
 
 module _ (l : List ℕ) (h : isValid l ≡ true) where
   test : (i : ℕ) → getD (validTests l) i true ≡ true
@@ -113,12 +114,7 @@ module _ (l : List ℕ) (h : isValid l ≡ true) where
     -- ---- A valid image is the image of its state
 
     tail : spell TAIL 20 l ≡ replicate 20 0
-    tail =
-        let rest : length (drop TAIL l) ≡ 20 = simp length-drop (omega (arith, valid-length)) in
-        spell-part TAIL 20 l (omega (arith, valid-length))
-        ∙ take-all 20 (drop TAIL l) (le-of-eq rest)
-        ∙ zeros (drop TAIL l) (test 2)
-        ∙ ap (λ (n : ℕ). replicate n 0) rest
+    tail = zeros (spell TAIL 20 l) (test 2)
 
     pub encode-decode : encoded (decoded l) ≡ l
     encode-decode =

@@ -2,9 +2,10 @@
 use Prim.Native.Nat.{ℕ, _/_, _%_}
 use mathlib.Core.Bool.{Bool, true, cond, not, _&&_, _||_}
 use mathlib.Core.List.{List, [], _∷_}
-use lib.ListN.{length, drop}
+use lib.ListN.{length}
 use lib.Dec.{eqb, ltb, leb}
 use Rattle.common.specs.Tests.{conj}
+use Rattle.common.specs.Spell.{spell}
 use Rattle.registers.specs.Names.{at, WATCHDOG}
 use Rattle.registers.specs.Written.{reservedClear}
 use Rattle.registers.specs.Watchdog.{watchdogLoad}
@@ -16,11 +17,7 @@ use Rattle.panel.specs.declared.Panel.{Panel}
 use Rattle.image.specs.Layout.{SIZE, FLAGS, LINES, CONFIGURATION, PROTOCOL, CONTROL, TAIL, byteAt}
 use Rattle.image.specs.Image.{decoded}
 
--- ---- Bits without a name
-
-abbrev pub allZero : List ℕ → Bool
-allZero [] = true
-allZero (b ∷ bs) = eqb b 0 && allZero bs
+-- ---- Bits and bytes without a name
 
 -- flags b7..b2, lines b7..b3, configuration b7, b6 and b4, protocol b7, display control b7..b5
 abbrev pub unnamedTests : List ℕ → List Bool
@@ -32,6 +29,14 @@ unnamedTests l =
     ∷ ltb (byteAt l PROTOCOL) 128
     ∷ ltb (byteAt l CONTROL) 32
     ∷ []
+
+abbrev pub zeroTests : List ℕ → List Bool
+zeroTests [] = []
+zeroTests (b ∷ bs) = eqb b 0 ∷ zeroTests bs
+
+-- the bytes from 44 to 63
+abbrev pub tailTests : List ℕ → List Bool
+tailTests l = zeroTests (spell TAIL 20 l)
 
 -- ---- The state
 
@@ -75,7 +80,7 @@ stateTests p =
     ∷ []
 
 abbrev pub validTests : List ℕ → List Bool
-validTests l = eqb (length l) SIZE ∷ conj (unnamedTests l) ∷ allZero (drop TAIL l) ∷ conj (stateTests (decoded l)) ∷ []
+validTests l = eqb (length l) SIZE ∷ conj (unnamedTests l) ∷ conj (tailTests l) ∷ conj (stateTests (decoded l)) ∷ []
 
 unfoldable pub isValid : List ℕ → Bool
 isValid l = conj (validTests l)

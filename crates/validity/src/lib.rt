@@ -1,11 +1,9 @@
 // Which images are valid.
 ghost use mathlib.Core.Path.{_≡_};
 ghost use Rattle.common.specs.Tests.{conj};
-ghost use Rattle.validity.specs.Valid.{allZero, unnamedTests, rangeTests, guardWithin, watchdogWithin, stateTests, isValid};
+ghost use Rattle.validity.specs.Valid.{unnamedTests, tailTests, rangeTests, guardWithin, watchdogWithin, stateTests, isValid};
 use controller::Core;
 use panel::Panel;
-
-const SIZE: usize = 64;
 
 const FLAGS: usize = 17;
 
@@ -17,23 +15,33 @@ const PROTOCOL: usize = 21;
 
 const CONTROL: usize = 38;
 
-const TAIL: usize = 44;
-
 // Register 09h.
 const WATCHDOG: usize = 0x09;
 
-// Whether every byte is 0.
-fn is_zero(s: &[u8]) -> bool
-    ensures { λ r. ⌜ r ≡ allZero (now (s .entry)) ⌝ }
+// Whether the bytes without a use are 0.
+fn tail_clear(image: [u8; 64]) -> bool
+    ensures { λ r. ⌜ r ≡ conj (tailTests image) ⌝ }
 {
-    let mut i = 0;
-    while i < s.len() {
-        if s[i] != 0 {
-            return false;
-        }
-        i += 1;
-    }
-    true
+    (image[44] == 0)
+        & (image[45] == 0)
+        & (image[46] == 0)
+        & (image[47] == 0)
+        & (image[48] == 0)
+        & (image[49] == 0)
+        & (image[50] == 0)
+        & (image[51] == 0)
+        & (image[52] == 0)
+        & (image[53] == 0)
+        & (image[54] == 0)
+        & (image[55] == 0)
+        & (image[56] == 0)
+        & (image[57] == 0)
+        & (image[58] == 0)
+        & (image[59] == 0)
+        & (image[60] == 0)
+        & (image[61] == 0)
+        & (image[62] == 0)
+        & (image[63] == 0)
 }
 
 // Whether the bits without a name are 0.
@@ -88,8 +96,10 @@ fn is_sound(p: Panel) -> bool
     let registers = rtc.registers;
     let protocol = core.setup.protocol;
     let remote = core.remote;
-    timekeeper::valid(registers)
-        & registers::reserved_clear(registers)
+    if !timekeeper::valid(registers) {
+        return false;
+    }
+    registers::reserved_clear(registers)
         & in_ranges(p)
         & ((protocol == 0) | (protocol == 2) | (protocol == 4))
         & guard_within(core)
@@ -99,14 +109,12 @@ fn is_sound(p: Panel) -> bool
         & ((remote.fresh != 0) | (remote.command == 0))
 }
 
-// Whether the bytes are a valid image.
-pub fn is_valid(image: &[u8]) -> bool
-    ensures { λ r. ⌜ r ≡ isValid (now (image .entry)) ⌝ }
+// Whether 64 bytes are a valid image.
+pub fn is_valid(image: [u8; 64]) -> bool
+    ensures { λ r. ⌜ r ≡ isValid image ⌝ }
 {
-    if image.len() != SIZE {
+    if !is_sound(image::decode(image)) {
         return false;
     }
-    let a = image::load(image);
-    let p = image::decode(a);
-    unnamed_clear(a) & is_zero(&image[TAIL..]) & is_sound(p)
+    unnamed_clear(image) & tail_clear(image)
 }
