@@ -14,8 +14,11 @@ same-length c = search needs
 returns : tie.Need-returns
 returns c = search (needs, call-refused)
 
-panel-in-requires : tie.Need-panel-in-requires
-panel-in-requires c κs = search (needs, sized)
+load-requires : tie.Need-load-requires
+load-requires c κs = search (needs, sized)
+
+power-requires : tie.Need-power-requires
+power-requires c κs = search needs
 
 decode-requires : tie.Need-decode-requires
 decode-requires c κs = search needs
@@ -47,9 +50,8 @@ returns-3 c = search (needs, write-refused)
 reply-requires : tie.Need-reply-requires
 reply-requires c κs = search needs
 
-store-requires : tie.Need-store-requires
-store-requires c κs =
-    let t = c .before .before .before .before .before .before .before .before .before .before .before .before .before .before .before in sized _ _ (t .before .is-valid .ensures) (t .if1 .left)
+save-requires : tie.Need-save-requires
+save-requires c κs = search (needs, sized)
 
 same-length-4 : tie.Need-same-length-4
 same-length-4 c = search needs
@@ -58,18 +60,17 @@ same-length-5 : tie.Need-same-length-5
 same-length-5 c = search needs
 
 returns-4 : tie.Need-returns-4
-returns-4 c =
-    let t = c .before .before .before .before .before .before .before .before .before .before .before .before .before .before .before .before in
-    command-done _ _ (t .before .before .before .is-valid .ensures) (t .before .before .if1 .left) _ (t .panel-in .ensures) _ _ _ (c .before .before .before .before .before .before .before .before .before .before .before .before .before .before .before .decode .ensures) _
-    (c .before .before .before .before .before .before .before .before .before .before .before .before .before .decoded .given .1) _ (c .before .before .before .before .before .before .before .before .before .before .before .execute .ensures) (c .before .before .before .before .before .before .before .before .before .if2 .left) _ _ (c .before .before .store .ensures) (c .before .before .before .before .before .before .reply .ensures)
+returns-4 c = search (needs, command-done)
 
 pub stled325-command-spec : {M : Type 1} → statement M
 stled325-command-spec =
     tie.close
-    (tie.spec is-valid-requires
+    (tie.spec
+    is-valid-requires
     same-length
     returns
-    panel-in-requires
+    load-requires
+    power-requires
     decode-requires
     enum-known-decoded
     enum-told
@@ -80,7 +81,7 @@ stled325-command-spec =
     same-length-3
     returns-3
     reply-requires
-    store-requires
+    save-requires
     same-length-4
     same-length-5
     returns-4)

@@ -13,8 +13,8 @@ returns c = search (needs, call-refused)
 returns-2 : tie.Need-returns-2
 returns-2 c = search (needs, view-refused)
 
-panel-in-requires : tie.Need-panel-in-requires
-panel-in-requires c κs = search (needs, sized)
+load-requires : tie.Need-load-requires
+load-requires c κs = search (needs, sized)
 
 show-requires : tie.Need-show-requires
 show-requires c κs = search needs
@@ -34,10 +34,11 @@ returns-3 c = search (needs, show-done)
 pub stled325-show-spec : {M : Type 1} → statement M
 stled325-show-spec =
     tie.close
-    (tie.spec is-valid-requires
+    (tie.spec
+    is-valid-requires
     returns
     returns-2
-    panel-in-requires
+    load-requires
     show-requires
     slice-aggregate-copy
     copy-requires
