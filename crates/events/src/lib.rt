@@ -8,23 +8,16 @@ ghost use Rattle.controller.specs.Tick.{ticked};
 ghost use Rattle.controller.specs.Keys.{sampled};
 ghost use Rattle.controller.specs.Remote.{keyed};
 ghost use Rattle.controller.specs.Pins.{readySet, wakeUpSet};
-ghost use Rattle.display.specs.Shown.{shown};
 ghost use Rattle.panel.specs.State.{onCore};
 ghost use Rattle.panel.specs.PowerUp.{panelPoweredUp};
-ghost use Rattle.panel.specs.Execute.{served};
-ghost use Rattle.panel.specs.Read.{outputAfter};
 ghost use Rattle.image.specs.Image.{decoded, encoded};
 ghost use Rattle.supply.specs.Return.{panelReturned};
+ghost use Rattle.events.specs.Serve.{numberLeft, imageLeft, outputLeft};
+ghost use Rattle.events.specs.Show.{shownIn};
 use command::Command;
 use controller::Power;
 use panel::Panel;
 use units::Seconds;
-
-// What a command leaves: the image, and the number 0 or 9.
-pub struct Served {
-    pub image: [u8; 64],
-    pub refusal: u32,
-}
 
 // The panel in an image of 64 bytes.
 fn panel_in(image: &[u8]) -> Panel
@@ -130,11 +123,20 @@ pub fn interrupt(image: [u8; 64]) -> u8
     p.core.interrupt
 }
 
-// The five bytes of show.
-pub fn show(image: [u8; 64]) -> [u8; 5]
-    ensures { λ r. ⌜ r ≡ shown (decoded image .core .rtc .registers) (decoded image .core .setup .configuration) (decoded image .core .power .stby) (decoded image .display) ⌝ }
+// Writes the five bytes of show.
+pub fn show(image: &[u8], digits: &mut [u8])
+    requires { ⌜ length (now image) ≡ 64 ⌝ }
+    requires { ⌜ length (now digits) ≡ 5 ⌝ }
+    ensures { λ _. ⌜ now (digits .exit) ≡ shownIn (decoded (now (image .entry))) ⌝ }
 {
-    let p = image::decode(image);
+    let shown = shown_by(panel_in(image));
+    bytes::copy(&shown, digits);
+}
+
+// The five bytes of show.
+fn shown_by(p: Panel) -> [u8; 5]
+    ensures { λ r. ⌜ r ≡ shownIn p ⌝ }
+{
     let core = p.core;
     let rtc = core.rtc;
     let registers = rtc.registers;
@@ -142,24 +144,20 @@ pub fn show(image: [u8; 64]) -> [u8; 5]
     display::show(registers, core.setup.configuration, core.power.stby, d)
 }
 
-// The image after an accepted command, whose bytes are s; a write that leaves no valid calendar is 9.
-pub fn execute(image: [u8; 64], k: Command, s: &[u8]) -> Served
-    ensures { λ r. ⌜ r .image ≡ encoded (served (decoded image) k (now (s .entry)) .panel) ⌝ }
-    ensures { λ r. ⌜ r .refusal ≡ served (decoded image) k (now (s .entry)) .refusal ⌝ }
+// Serves an accepted command, whose bytes are s: the reply is of the panel as it was. A write that leaves no valid calendar is 9.
+pub fn serve(image: &mut [u8], k: Command, s: &[u8], out: &mut [u8]) -> u32
+    requires { ⌜ length (now image) ≡ 64 ⌝ }
+    ensures { λ r. ⌜ r ≡ numberLeft (now (image .entry)) k (now (s .entry)) ⌝ }
+    ensures { λ _. ⌜ now (image .exit) ≡ imageLeft (now (image .entry)) k (now (s .entry)) ⌝ }
+    ensures { λ _. ⌜ now (out .exit) ≡ outputLeft (now (image .entry)) k (now (s .entry)) (now (out .entry)) ⌝ }
 {
-    let p = image::decode(image);
+    let p = panel_in(image);
     let served = p.execute(k, s);
-    let next = served.panel;
-    Served {
-        image: image::encode(next),
-        refusal: served.refusal,
+    if served.refusal != 0 {
+        return served.refusal;
     }
-}
-
-// Writes the reply of a reading command to the output.
-pub fn reply(image: [u8; 64], k: Command, out: &mut [u8])
-    ensures { λ _. ⌜ now (out .exit) ≡ outputAfter (decoded image .core) k (now (out .entry)) ⌝ }
-{
-    let p = image::decode(image);
+    let next = served.panel;
     p.reply(k, out);
+    store(image, next);
+    0
 }

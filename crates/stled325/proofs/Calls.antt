@@ -2,12 +2,10 @@
 use Prim.Native.Nat.{ℕ, _≤_, _<_}
 use mathlib.Core.Path.{_≡_, refl, sym, ap, _∙_}
 use mathlib.Core.Bool.{Bool, true, false, not}
-use mathlib.Core.List.{List, [], _∷_, _++_, append-nil}
+use mathlib.Core.List.{List, [], _∷_}
 use native.Mathlib.Omega.{arith}
 use lib.Dec.{eqb, ltb}
-use lib.ListN.{length, getD, set, take, drop, drop-of-length-le}
-use lib.Seq.{take-length}
-use native.Mathlib.Nat.{le-of-eq}
+use lib.ListN.{length, getD, set}
 use borrow.Author.Tests.{eq-eqb, ne-eqb, lt-ltb, le-ltb, not-false}
 use Rattle.common.specs.Grounds.{Ground, ground}
 use Rattle.remote.specs.declared.Received.{Received}
@@ -98,19 +96,16 @@ module _ (l : List ℕ) (v : Bool) (e : v ≡ isValid l) where
     view-done : (size : ℕ) (q : List ℕ) → length o ≡ size → outcome 0 l q ≡ decided (viewGrounds size l o) l o l q
     view-done size q n = accepted (viewGrounds size l o) l o l q (good h, ((λ i. not (eq-eqb (length o) size n i)), tt))
 
-    -- what is read of the copied image a
-    module _ (a : List ℕ) (ea : a ≡ l) where
-      pub show-done : length o ≡ 5 → (s : List ℕ) → s ≡ shownOf (decoded a) → length s ≡ 5 → (m : List ℕ) → m ≡ take (length s) s ++ drop (length s) o → outcome 0 l m ≡ showCall l o
-      show-done n s es ns m em =
-          ap (outcome 0 l) (em ∙ (λ i. take-length s i ++ drop-of-length-le o {i = length s} (le-of-eq (n ∙ sym ns)) i) ∙ append-nil s ∙ es ∙ ap (λ (y : List ℕ). shownOf (decoded y)) ea)
-          ∙ view-done 5 (shownOf (decoded l)) n
+    pub show-done : length o ≡ 5 → (m : List ℕ) → m ≡ shownOf (decoded l) → outcome 0 l m ≡ showCall l o
+    show-done n m em = ap (outcome 0 l) em ∙ view-done 5 (shownOf (decoded l)) n
 
-      pub lines-done : length o ≡ 1 → (p : Power) → p ≡ decoded a .core .power → (x : ℕ) → x ≡ decoded a .core .interrupt → (b : ℕ) → b ≡ linesOf (p .ready) (p .stby) x → outcome 0 l (set o 0 b) ≡ linesCall l o
-      lines-done n p ep x ex b eb =
-          ap (outcome 0 l) (one o n ∙ (λ i. (eb ∙ (λ j. linesOf (ep j .ready) (ep j .stby) (ex j)) ∙ ap (λ (y : List ℕ). linesOf (decoded y .core .power .ready) (decoded y .core .power .stby) (decoded y .core .interrupt)) ea) i ∷ []))
-          ∙ view-done 1 (linesIn (decoded l .core)) n
-        where
-          one : (y : List ℕ) → length y ≡ 1 → set y 0 b ≡ b ∷ []
-          one [] z = absurd (omega arith)
-          one (y ∷ []) z = refl
-          one (y ∷ w ∷ ws) z = absurd (omega arith)
+    -- lines, by what is read of the copied image a
+    pub lines-done : (a : List ℕ) → a ≡ l → length o ≡ 1 → (p : Power) → p ≡ decoded a .core .power → (x : ℕ) → x ≡ decoded a .core .interrupt → (b : ℕ) → b ≡ linesOf (p .ready) (p .stby) x → outcome 0 l (set o 0 b) ≡ linesCall l o
+    lines-done a ea n p ep x ex b eb =
+        ap (outcome 0 l) (one o n ∙ (λ i. (eb ∙ (λ j. linesOf (ep j .ready) (ep j .stby) (ex j)) ∙ ap (λ (y : List ℕ). linesOf (decoded y .core .power .ready) (decoded y .core .power .stby) (decoded y .core .interrupt)) ea) i ∷ []))
+        ∙ view-done 1 (linesIn (decoded l .core)) n
+      where
+        one : (y : List ℕ) → length y ≡ 1 → set y 0 b ≡ b ∷ []
+        one [] z = absurd (omega arith)
+        one (y ∷ []) z = refl
+        one (y ∷ w ∷ ws) z = absurd (omega arith)

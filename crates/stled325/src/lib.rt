@@ -86,20 +86,12 @@ pub extern "C" fn stled325_command(image: &mut [u8], bytes: &[u8], out: &mut [u8
     if !validity::is_valid(image) {
         return 1;
     }
-    let before = image::load(image);
-    let power = events::power(before);
+    let power = events::power(image::load(image));
     let decoded = command::decode(bytes, power.stby, out.len());
     let Decoded::Accepted(k) = decoded else {
         return command::number(decoded);
     };
-    let served = events::execute(before, k, bytes);
-    if served.refusal != 0 {
-        return served.refusal;
-    }
-    let next = served.image;
-    events::reply(before, k, out);
-    image::save(image, next);
-    0
+    events::serve(image, k, bytes, out)
 }
 
 #[no_mangle]
@@ -127,8 +119,7 @@ pub extern "C" fn stled325_show(image: &[u8], digits: &mut [u8]) -> u32
     if digits.len() != 5 {
         return 12;
     }
-    let shown = events::show(image::load(image));
-    bytes::copy(&shown, digits);
+    events::show(image, digits);
     0
 }
 

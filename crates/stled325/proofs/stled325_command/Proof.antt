@@ -1,7 +1,7 @@
 -- `stled325::stled325_command` meets its contract.
 use borrow.Author.Needs.{needs}
 use Rattle.stled325.proofs.Calls.{sized, call-refused}
-use Rattle.stled325.proofs.Commands.{decode-refused, write-refused, command-done}
+use Rattle.stled325.proofs.Commands.{decode-refused, command-done}
 use Rattle.stled325.proofs.stled325_command.Statement.{statement}
 use Rattle.stled325.proofs.stled325_command.Tie as tie
 
@@ -38,29 +38,17 @@ same-length-2 c = search needs
 returns-2 : tie.Need-returns-2
 returns-2 c = search (needs, decode-refused)
 
-execute-requires : tie.Need-execute-requires
-execute-requires c κs = search needs
+serve-requires : tie.Need-serve-requires
+serve-requires c κs = search (needs, sized)
 
 same-length-3 : tie.Need-same-length-3
 same-length-3 c = search needs
 
-returns-3 : tie.Need-returns-3
-returns-3 c = search (needs, write-refused)
-
-reply-requires : tie.Need-reply-requires
-reply-requires c κs = search needs
-
-save-requires : tie.Need-save-requires
-save-requires c κs = search (needs, sized)
-
 same-length-4 : tie.Need-same-length-4
 same-length-4 c = search needs
 
-same-length-5 : tie.Need-same-length-5
-same-length-5 c = search needs
-
-returns-4 : tie.Need-returns-4
-returns-4 c = search (needs, command-done)
+returns-3 : tie.Need-returns-3
+returns-3 c = search (needs, command-done)
 
 pub stled325-command-spec : {M : Type 1} → statement M
 stled325-command-spec =
@@ -77,11 +65,7 @@ stled325-command-spec =
     number-requires
     same-length-2
     returns-2
-    execute-requires
+    serve-requires
     same-length-3
-    returns-3
-    reply-requires
-    save-requires
     same-length-4
-    same-length-5
-    returns-4)
+    returns-3)
