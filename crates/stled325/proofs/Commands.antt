@@ -14,17 +14,17 @@ use Rattle.command.specs.declared.Decoded.the-variants.{Accepted, Refused}
 use Rattle.command.specs.Refusals.{grounds}
 use Rattle.command.specs.Decode.{commandOf, decodedOf, numberOf}
 use Rattle.command.proofs.Answers.{refused-number, refused-nonzero, accepted-command, accepted-none}
-use Rattle.panel.specs.declared.Panel.{Panel}
-use Rattle.panel.specs.declared.Served.{Served}
+use Rattle.controller.specs.declared.Power.{Power}
 use Rattle.panel.specs.Read.{outputAfter}
-use Rattle.panel.specs.Execute.{executed, writesNoCalendar, servedAs, served}
+use Rattle.panel.specs.Execute.{executed, writesNoCalendar}
 use Rattle.image.specs.Image.{decoded, encoded}
+use Rattle.events.specs.Serve.{numberLeft, imageLeft, outputLeft}
 use Rattle.validity.specs.Valid.{isValid}
 use Rattle.stled325.specs.Outcome.{outcome, decided, invalid}
 use Rattle.stled325.specs.Command.{commandGrounds, commandCall}
 use Rattle.stled325.proofs.Decided.{accepted-zero, refused, first-passed}
 
-module _ (l : List ℕ) (v : Bool) (ev : v ≡ isValid l) (hv : not v ≡ false) (p : Panel) (ep : p ≡ decoded l) (s o : List ℕ) where
+module _ (l : List ℕ) (v : Bool) (ev : v ≡ isValid l) (hv : not v ≡ false) (a : List ℕ) (ea : a ≡ l) (s o : List ℕ) where
   abbrev stby : Bool
   stby = decoded l .core .power .stby
 
@@ -37,12 +37,18 @@ module _ (l : List ℕ) (v : Bool) (ev : v ≡ isValid l) (hv : not v ≡ false)
   past-1 : firstGround (table ++ (ground 9 last ∷ [])) ≡ firstGround (commandGrounds l s o)
   past-1 = first-passed (not (isValid l)) 1 (table ++ (ground 9 last ∷ [])) ((λ i. not (sym ev i)) ∙ hv)
 
-  by-number : (n : ℕ) → (n ≡ 0 → ⊥) → n ≡ firstGround (commandGrounds l s o) → outcome n l o ≡ commandCall l s o
-  by-number n z e = refused (commandGrounds l s o) l o (encoded (executed (decoded l) (commandOf s) s)) (outputAfter (decoded l .core) (commandOf s) o) n z e
+  abbrev nextImage : List ℕ
+  nextImage = encoded (executed (decoded l) (commandOf s) s)
 
-  module _ (d : Decoded) (ed : d ≡ decodedOf s (p .core .power .stby) (length o)) where
+  abbrev nextOutput : List ℕ
+  nextOutput = outputAfter (decoded l .core) (commandOf s) o
+
+  by-number : (n : ℕ) → (n ≡ 0 → ⊥) → n ≡ firstGround (commandGrounds l s o) → outcome n l o ≡ commandCall l s o
+  by-number n z e = refused (commandGrounds l s o) l o nextImage nextOutput n z e
+
+  module _ (p : Power) (ep : p ≡ decoded a .core .power) (d : Decoded) (ed : d ≡ decodedOf s (p .stby) (length o)) where
     is-decoded : d ≡ decodedOf s stby (length o)
-    is-decoded = ed ∙ ap (λ (x : Panel). decodedOf s (x .core .power .stby) (length o)) ep
+    is-decoded = ed ∙ ap (λ (x : Power). decodedOf s (x .stby) (length o)) (ep ∙ ap (λ (y : List ℕ). decoded y .core .power) ea)
 
     -- grounds 2 to 8
     pub decode-refused : (m n : ℕ) → d ≡ Refused m → n ≡ numberOf d → outcome n l o ≡ commandCall l s o
@@ -53,35 +59,25 @@ module _ (l : List ℕ) (v : Bool) (ev : v ≡ isValid l) (hv : not v ≡ false)
         (refused-number s stby (length o) f
         ∙ sym (ground-before table (ground 9 last ∷ []) (λ (z : firstGround table ≡ 0). refused-nonzero s stby (length o) f (refused-number s stby (length o) f ∙ z))) ∙ past-1)
 
-    module _ (k : Command) (ek : d ≡ Accepted k) (w : Served) (ew : w ≡ served p k s) where
+    module _ (k : Command) (ek : d ≡ Accepted k) where
       f : decodedOf s stby (length o) ≡ Accepted k
       f = sym is-decoded ∙ ek
-
-      is-served : w ≡ served (decoded l) (commandOf s) s
-      is-served = ew ∙ (λ i. served (ep i) (accepted-command s stby (length o) f i) s)
 
       number : firstGround (commandGrounds l s o) ≡ cond last 9 0
       number = sym past-1 ∙ ground-passed table (ground 9 last ∷ []) (accepted-none s stby (length o) f)
 
       -- ground 9
-      pub write-refused : (w .refusal ≡ 0 → ⊥) → outcome (w .refusal) l o ≡ commandCall l s o
-      write-refused h = by-number (w .refusal) h (ap (λ (x : Served). x .refusal) is-served ∙ by last ∙ sym number)
-        where
-          by : (b : Bool) → (cond b (servedAs (decoded l) 9) (servedAs (executed (decoded l) (commandOf s) s) 0)) .refusal ≡ cond b 9 0
-          by true = refl
-          by false = refl
+      pub write-refused : last ≡ true → outcome 9 l o ≡ commandCall l s o
+      write-refused t = by-number 9 (λ (z : _≡_ {A = ℕ} 9 0). omega arith) (on-true 9 0 t ∙ sym number)
 
-      pub command-done : w .refusal ≡ 0 → (m q : List ℕ) → m ≡ encoded (w .panel) → q ≡ outputAfter (p .core) k o → outcome 0 m q ≡ commandCall l s o
-      command-done h m q em eq = by-cases (outcome 0 m q ≡ commandCall l s o) last (λ t. absurd (lost t)) (λ t. kept t)
-        where
-          taken : (gs : List Ground) → firstGround gs ≡ 0 → outcome 0 (encoded (executed (decoded l) (commandOf s) s)) (outputAfter (decoded l .core) (commandOf s) o) ≡ decided gs l o (encoded (executed (decoded l) (commandOf s) s)) (outputAfter (decoded l .core) (commandOf s) o)
-          taken gs z = accepted-zero gs l o (encoded (executed (decoded l) (commandOf s) s)) (outputAfter (decoded l .core) (commandOf s) o) z
+      pub write-accepted : last ≡ false → outcome 0 nextImage nextOutput ≡ commandCall l s o
+      write-accepted t = accepted-zero (commandGrounds l s o) l o nextImage nextOutput (number ∙ sym (on-false 9 0 t))
 
-          lost : last ≡ true → ⊥
-          lost t = let z : _≡_ {A = ℕ} 0 9 = sym h ∙ ap (λ (x : Served). x .refusal) (is-served ∙ sym (on-true _ _ t)) in omega arith
-
-          kept : last ≡ false → outcome 0 m q ≡ commandCall l s o
-          kept t =
-              (λ i. outcome 0 ((em ∙ ap (λ (x : Served). encoded (x .panel)) (is-served ∙ sym (on-false (servedAs (decoded l) 9) (servedAs (executed (decoded l) (commandOf s) s) 0) t))) i)
-              ((eq ∙ (λ j. outputAfter (ep j .core) (accepted-command s stby (length o) f j) o)) i))
-              ∙ taken (commandGrounds l s o) (number ∙ sym (on-false 9 0 t))
+      pub command-done : (n : ℕ) (m q : List ℕ) → n ≡ numberLeft l k s → m ≡ imageLeft l k s → q ≡ outputLeft l k s o → outcome n m q ≡ commandCall l s o
+      unfolding numberLeft imageLeft outputLeft
+      command-done n m q en em eq =
+          (λ i. outcome (en i) (em i) (eq i))
+          ∙ (λ i. outcome (numberLeft l (accepted-command s stby (length o) f i) s) (imageLeft l (accepted-command s stby (length o) f i) s) (outputLeft l (accepted-command s stby (length o) f i) s o))
+          ∙ by-cases (outcome (cond last 9 0) (cond last l nextImage) (cond last o nextOutput) ≡ commandCall l s o) last
+          (λ t. (λ i. outcome (sym (on-true 9 0 t) i) (sym (on-true l nextImage t) i) (sym (on-true o nextOutput t) i)) ∙ write-refused t)
+          (λ t. (λ i. outcome (sym (on-false 9 0 t) i) (sym (on-false l nextImage t) i) (sym (on-false o nextOutput t) i)) ∙ write-accepted t)

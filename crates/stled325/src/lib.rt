@@ -1,42 +1,12 @@
-// The exported calls over a lent image of 64 bytes: check, decode, event, encode. Every call returns its refusal number, 0 where accepted.
+// The exported calls over a lent image of 64 bytes: each checks it, and leaves what its event leaves. Every call returns its refusal number, 0 where accepted.
 ghost use mathlib.Core.Path.{_≡_};
 ghost use mathlib.Core.List.{[]};
-ghost use lib.ListN.{length};
-ghost use Rattle.image.specs.Image.{decoded, encoded};
 ghost use Rattle.stled325.specs.Outcome.{outcome};
-ghost use Rattle.stled325.specs.Calls.{powerUpCall, tickCall, sampleCall, readyCall, wakeUpCall, frameCall, supplyReturnCall, showCall, linesCall, shownOf};
+ghost use Rattle.stled325.specs.Calls.{powerUpCall, tickCall, sampleCall, readyCall, wakeUpCall, frameCall, supplyReturnCall, showCall, linesCall};
 ghost use Rattle.stled325.specs.Command.{commandCall};
 use command::Decoded;
-use panel::Panel;
 use remote::Received;
 use units::Seconds;
-
-// The panel in an image of 64 bytes.
-fn panel_in(image: &[u8]) -> Panel
-    requires { ⌜ length (now image) ≡ 64 ⌝ }
-    ensures { λ r. ⌜ r ≡ decoded (now (image .entry)) ⌝ }
-{
-    image::decode(image::load(image))
-}
-
-// Stores the panel as the image.
-fn store(image: &mut [u8], p: Panel)
-    requires { ⌜ length (now image) ≡ 64 ⌝ }
-    ensures { λ _. ⌜ now (image .exit) ≡ encoded p ⌝ }
-{
-    image::save(image, image::encode(p));
-}
-
-// The five bytes of show.
-fn show(p: Panel) -> [u8; 5]
-    ensures { λ r. ⌜ r ≡ shownOf p ⌝ }
-{
-    let core = p.core;
-    let rtc = core.rtc;
-    let registers = rtc.registers;
-    let d = p.display;
-    display::show(registers, core.setup.configuration, core.power.stby, d)
-}
 
 #[no_mangle]
 pub extern "C" fn stled325_power_up(image: &mut [u8]) -> u32
@@ -45,7 +15,7 @@ pub extern "C" fn stled325_power_up(image: &mut [u8]) -> u32
     if image.len() != 64 {
         return 1;
     }
-    store(image, Panel::power_up());
+    events::power_up(image);
     0
 }
 
@@ -56,8 +26,7 @@ pub extern "C" fn stled325_tick(image: &mut [u8]) -> u32
     if !validity::is_valid(image) {
         return 1;
     }
-    let p = panel_in(image);
-    store(image, p.tick());
+    events::tick(image);
     0
 }
 
@@ -68,8 +37,7 @@ pub extern "C" fn stled325_key_sample(image: &mut [u8], sample: u16) -> u32
     if !validity::is_valid(image) {
         return 1;
     }
-    let p = panel_in(image);
-    store(image, p.sample_keys(sample as u32));
+    events::sample_keys(image, sample as u32);
     0
 }
 
@@ -80,8 +48,7 @@ pub extern "C" fn stled325_ready(image: &mut [u8], level: u32) -> u32
     if !validity::is_valid(image) {
         return 1;
     }
-    let p = panel_in(image);
-    store(image, p.set_ready(level != 0));
+    events::set_ready(image, level != 0);
     0
 }
 
@@ -92,8 +59,7 @@ pub extern "C" fn stled325_wake_up(image: &mut [u8], level: u32) -> u32
     if !validity::is_valid(image) {
         return 1;
     }
-    let p = panel_in(image);
-    store(image, p.set_wake_up(level != 0));
+    events::set_wake_up(image, level != 0);
     0
 }
 
@@ -104,12 +70,12 @@ pub extern "C" fn stled325_remote_frame(image: &mut [u8], frame: u32) -> u32
     if !validity::is_valid(image) {
         return 1;
     }
-    let p = panel_in(image);
-    let received = remote::key(p.core.setup.protocol, frame);
+    let protocol = events::protocol(image::load(image));
+    let received = remote::key(protocol, frame);
     let Received::Key(address, command) = received else {
         return remote::refusal(received);
     };
-    store(image, p.receive_key(address, command));
+    events::receive_key(image, address, command);
     0
 }
 
@@ -120,19 +86,12 @@ pub extern "C" fn stled325_command(image: &mut [u8], bytes: &[u8], out: &mut [u8
     if !validity::is_valid(image) {
         return 1;
     }
-    let p = panel_in(image);
-    let decoded = command::decode(bytes, p.core.power.stby, out.len());
+    let power = events::power(image::load(image));
+    let decoded = command::decode(bytes, power.stby, out.len());
     let Decoded::Accepted(k) = decoded else {
         return command::number(decoded);
     };
-    let served = p.execute(k, bytes);
-    if served.refusal != 0 {
-        return served.refusal;
-    }
-    let next = served.panel;
-    p.reply(k, out);
-    store(image, next);
-    0
+    events::serve(image, k, bytes, out)
 }
 
 #[no_mangle]
@@ -145,9 +104,8 @@ pub extern "C" fn stled325_supply_return(image: &mut [u8], seconds: u32) -> u32
     if seconds > supply::LIMIT {
         return 10;
     }
-    let p = panel_in(image);
     let n = Seconds(seconds);
-    store(image, supply::return_panel(p, n));
+    events::return_supply(image, n);
     0
 }
 
@@ -161,9 +119,7 @@ pub extern "C" fn stled325_show(image: &[u8], digits: &mut [u8]) -> u32
     if digits.len() != 5 {
         return 12;
     }
-    let p = panel_in(image);
-    let shown = show(p);
-    bytes::copy(&shown, digits);
+    events::show(image, digits);
     0
 }
 
@@ -177,7 +133,8 @@ pub extern "C" fn stled325_lines(image: &[u8], lines: &mut [u8]) -> u32
     if lines.len() != 1 {
         return 12;
     }
-    let p = panel_in(image);
-    lines[0] = display::lines(p.core.power.ready, p.core.power.stby, p.core.interrupt);
+    let l = image::load(image);
+    let power = events::power(l);
+    lines[0] = display::lines(power.ready, power.stby, events::interrupt(l));
     0
 }

@@ -1,7 +1,7 @@
 -- `stled325::stled325_command` meets its contract.
 use borrow.Author.Needs.{needs}
 use Rattle.stled325.proofs.Calls.{sized, call-refused}
-use Rattle.stled325.proofs.Commands.{decode-refused, write-refused, command-done}
+use Rattle.stled325.proofs.Commands.{decode-refused, command-done}
 use Rattle.stled325.proofs.stled325_command.Statement.{statement}
 use Rattle.stled325.proofs.stled325_command.Tie as tie
 
@@ -14,8 +14,11 @@ same-length c = search needs
 returns : tie.Need-returns
 returns c = search (needs, call-refused)
 
-panel-in-requires : tie.Need-panel-in-requires
-panel-in-requires c κs = search (needs, sized)
+load-requires : tie.Need-load-requires
+load-requires c κs = search (needs, sized)
+
+power-requires : tie.Need-power-requires
+power-requires c κs = search needs
 
 decode-requires : tie.Need-decode-requires
 decode-requires c κs = search needs
@@ -35,52 +38,34 @@ same-length-2 c = search needs
 returns-2 : tie.Need-returns-2
 returns-2 c = search (needs, decode-refused)
 
-execute-requires : tie.Need-execute-requires
-execute-requires c κs = search needs
+serve-requires : tie.Need-serve-requires
+serve-requires c κs = search (needs, sized)
 
 same-length-3 : tie.Need-same-length-3
 same-length-3 c = search needs
 
-returns-3 : tie.Need-returns-3
-returns-3 c = search (needs, write-refused)
-
-reply-requires : tie.Need-reply-requires
-reply-requires c κs = search needs
-
-store-requires : tie.Need-store-requires
-store-requires c κs =
-    let t = c .before .before .before .before .before .before .before .before .before .before .before .before .before .before .before in sized _ _ (t .before .is-valid .ensures) (t .if1 .left)
-
 same-length-4 : tie.Need-same-length-4
 same-length-4 c = search needs
 
-same-length-5 : tie.Need-same-length-5
-same-length-5 c = search needs
-
-returns-4 : tie.Need-returns-4
-returns-4 c =
-    let t = c .before .before .before .before .before .before .before .before .before .before .before .before .before .before .before .before in
-    command-done _ _ (t .before .before .before .is-valid .ensures) (t .before .before .if1 .left) _ (t .panel-in .ensures) _ _ _ (c .before .before .before .before .before .before .before .before .before .before .before .before .before .before .before .decode .ensures) _
-    (c .before .before .before .before .before .before .before .before .before .before .before .before .before .decoded .given .1) _ (c .before .before .before .before .before .before .before .before .before .before .before .execute .ensures) (c .before .before .before .before .before .before .before .before .before .if2 .left) _ _ (c .before .before .store .ensures) (c .before .before .before .before .before .before .reply .ensures)
+returns-3 : tie.Need-returns-3
+returns-3 c = search (needs, command-done)
 
 pub stled325-command-spec : {M : Type 1} → statement M
 stled325-command-spec =
     tie.close
-    (tie.spec is-valid-requires
+    (tie.spec
+    is-valid-requires
     same-length
     returns
-    panel-in-requires
+    load-requires
+    power-requires
     decode-requires
     enum-known-decoded
     enum-told
     number-requires
     same-length-2
     returns-2
-    execute-requires
+    serve-requires
     same-length-3
-    returns-3
-    reply-requires
-    store-requires
     same-length-4
-    same-length-5
-    returns-4)
+    returns-3)

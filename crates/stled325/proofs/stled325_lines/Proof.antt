@@ -13,8 +13,14 @@ returns c = search (needs, call-refused)
 returns-2 : tie.Need-returns-2
 returns-2 c = search (needs, view-refused)
 
-panel-in-requires : tie.Need-panel-in-requires
-panel-in-requires c κs = search (needs, sized)
+load-requires : tie.Need-load-requires
+load-requires c κs = search (needs, sized)
+
+power-requires : tie.Need-power-requires
+power-requires c κs = search needs
+
+interrupt-requires : tie.Need-interrupt-requires
+interrupt-requires c κs = search needs
 
 lines-requires : tie.Need-lines-requires
 lines-requires c κs = search needs
@@ -31,10 +37,13 @@ returns-3 c = search (needs, lines-done)
 pub stled325-lines-spec : {M : Type 1} → statement M
 stled325-lines-spec =
     tie.close
-    (tie.spec is-valid-requires
+    (tie.spec
+    is-valid-requires
     returns
     returns-2
-    panel-in-requires
+    load-requires
+    power-requires
+    interrupt-requires
     lines-requires
     slice-write-lines
     same-length

@@ -10,9 +10,6 @@ returns c = search (needs, up-short)
 power-up-requires : tie.Need-power-up-requires
 power-up-requires c κs = search needs
 
-store-requires : tie.Need-store-requires
-store-requires c κs = search needs
-
 same-length : tie.Need-same-length
 same-length c = search needs
 
@@ -20,4 +17,4 @@ returns-2 : tie.Need-returns-2
 returns-2 c = search (needs, up-done)
 
 pub stled325-power-up-spec : {M : Type 1} → statement M
-stled325-power-up-spec = tie.close (tie.spec returns power-up-requires store-requires same-length returns-2)
+stled325-power-up-spec = tie.close (tie.spec returns power-up-requires same-length returns-2)

@@ -13,8 +13,11 @@ same-length c = search needs
 returns : tie.Need-returns
 returns c = search (needs, call-refused)
 
-panel-in-requires : tie.Need-panel-in-requires
-panel-in-requires c κs = search (needs, sized)
+load-requires : tie.Need-load-requires
+load-requires c κs = search (needs, sized)
+
+protocol-requires : tie.Need-protocol-requires
+protocol-requires c κs = search needs
 
 key-requires : tie.Need-key-requires
 key-requires c κs = search needs
@@ -35,10 +38,7 @@ returns-2 : tie.Need-returns-2
 returns-2 c = search (needs, frame-refused)
 
 receive-key-requires : tie.Need-receive-key-requires
-receive-key-requires c κs = search needs
-
-store-requires : tie.Need-store-requires
-store-requires c κs = search (needs, sized)
+receive-key-requires c κs = search (needs, sized)
 
 same-length-3 : tie.Need-same-length-3
 same-length-3 c = search needs
@@ -49,10 +49,12 @@ returns-3 c = search (needs, frame-done)
 pub stled325-remote-frame-spec : {M : Type 1} → statement M
 stled325-remote-frame-spec =
     tie.close
-    (tie.spec is-valid-requires
+    (tie.spec
+    is-valid-requires
     same-length
     returns
-    panel-in-requires
+    load-requires
+    protocol-requires
     key-requires
     enum-known-received
     enum-told
@@ -60,6 +62,5 @@ stled325-remote-frame-spec =
     same-length-2
     returns-2
     receive-key-requires
-    store-requires
     same-length-3
     returns-3)

@@ -13,17 +13,8 @@ returns c = search (needs, call-refused)
 returns-2 : tie.Need-returns-2
 returns-2 c = search (needs, view-refused)
 
-panel-in-requires : tie.Need-panel-in-requires
-panel-in-requires c κs = search (needs, sized)
-
 show-requires : tie.Need-show-requires
-show-requires c κs = search needs
-
-slice-aggregate-copy : tie.Need-slice-aggregate-copy
-slice-aggregate-copy c = search needs
-
-copy-requires : tie.Need-copy-requires
-copy-requires c κs = search needs
+show-requires c κs = search (needs, sized)
 
 same-length : tie.Need-same-length
 same-length c = search needs
@@ -33,13 +24,4 @@ returns-3 c = search (needs, show-done)
 
 pub stled325-show-spec : {M : Type 1} → statement M
 stled325-show-spec =
-    tie.close
-    (tie.spec is-valid-requires
-    returns
-    returns-2
-    panel-in-requires
-    show-requires
-    slice-aggregate-copy
-    copy-requires
-    same-length
-    returns-3)
+    tie.close (tie.spec is-valid-requires returns returns-2 show-requires same-length returns-3)

@@ -13,14 +13,8 @@ same-length c = search needs
 returns : tie.Need-returns
 returns c = search (needs, call-refused)
 
-panel-in-requires : tie.Need-panel-in-requires
-panel-in-requires c κs = search (needs, sized)
-
 set-wake-up-requires : tie.Need-set-wake-up-requires
-set-wake-up-requires c κs = search needs
-
-store-requires : tie.Need-store-requires
-store-requires c κs = search (needs, sized)
+set-wake-up-requires c κs = search (needs, sized)
 
 same-length-2 : tie.Need-same-length-2
 same-length-2 c = search needs
@@ -31,11 +25,4 @@ returns-2 c = search (needs, event-done)
 pub stled325-wake-up-spec : {M : Type 1} → statement M
 stled325-wake-up-spec =
     tie.close
-    (tie.spec is-valid-requires
-    same-length
-    returns
-    panel-in-requires
-    set-wake-up-requires
-    store-requires
-    same-length-2
-    returns-2)
+    (tie.spec is-valid-requires same-length returns set-wake-up-requires same-length-2 returns-2)
