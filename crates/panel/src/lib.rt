@@ -137,13 +137,6 @@ impl Panel {
         self
     }
 
-    // An accepted command that leaves another shared state.
-    fn accept_core(self, core: Core) -> Served
-        ensures { λ r. ⌜ r ≡ servedAs (withCore self core) 0 ⌝ }
-    {
-        accept(self.with_core(core))
-    }
-
     // A tick, a sixteenth of a second.
     pub fn tick(self) -> Panel
         ensures { λ r. ⌜ r ≡ onCore ticked self ⌝ }
@@ -188,57 +181,40 @@ impl Panel {
     pub fn execute(self, k: Command, s: &[u8]) -> Served
         ensures { λ r. ⌜ r ≡ served self k (now (s .entry)) ⌝ }
     {
-        let mut core = self.core;
+        let core = self.core;
         match k {
-            Command::Configure(configuration, b) => {
-                core = effects::configure(core, configuration, b);
-                return self.accept_core(core);
-            }
+            Command::Configure(configuration, b) => accept(self.with_core(effects::configure(
+                core,
+                configuration,
+                b,
+            ))),
             Command::ConfigureDigits(configuration, b, n) => {
-                core = effects::configure(core, configuration, b);
-                return accept(self.with_core(core).set_digits(n));
+                accept(
+                    self.with_core(effects::configure(core, configuration, b))
+                        .set_digits(n),
+                )
             }
-            Command::WriteDigits(a) => {
-                return accept(self.write_digits(a, data_of(s)));
-            }
+            Command::WriteDigits(a) => accept(self.write_digits(a, data_of(s))),
             Command::WriteRegisters(a) => {
                 let w = effects::write_registers(core, a as usize, data_of(s));
-                core = w.core;
-                return Served {
-                    panel: self.with_core(core),
+                let written = w.core;
+                Served {
+                    panel: self.with_core(written),
                     refusal: w.refusal,
-                };
+                }
             }
-            Command::ReadKeys => {
-                core = effects::clear_store(core);
-                return self.accept_core(core);
-            }
-            Command::ReadRemote => {
-                core = effects::clear_remote(core);
-                return self.accept_core(core);
-            }
-            Command::ReadInterrupts => {
-                core = effects::clear_interrupts(core);
-                return self.accept_core(core);
-            }
-            Command::ReadRegisters(_) => {
-                return accept(self);
-            }
-            Command::SetDisplay(x) => {
-                return accept(self.set_display(x));
-            }
-            Command::SetHotKeys(low, high) => {
-                core = effects::set_mask(core, low, high);
-                return self.accept_core(core);
-            }
-            Command::Standby => {
-                core = core.begin_standby();
-                return self.accept_core(core);
-            }
-            Command::ReloadGuard => {
-                core = effects::reload_guard(core);
-                return self.accept_core(core);
-            }
+            Command::ReadKeys => accept(self.with_core(effects::clear_store(core))),
+            Command::ReadRemote => accept(self.with_core(effects::clear_remote(core))),
+            Command::ReadInterrupts => accept(self.with_core(effects::clear_interrupts(core))),
+            Command::ReadRegisters(_) => accept(self),
+            Command::SetDisplay(x) => accept(self.set_display(x)),
+            Command::SetHotKeys(low, high) => accept(self.with_core(effects::set_mask(
+                core,
+                low,
+                high,
+            ))),
+            Command::Standby => accept(self.with_core(core.begin_standby())),
+            Command::ReloadGuard => accept(self.with_core(effects::reload_guard(core))),
         }
     }
 
