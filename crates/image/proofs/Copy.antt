@@ -5,7 +5,7 @@ use native.Mathlib.Nat.{le-of-eq}
 use mathlib.Core.Path.{_≡_, refl, sym, ap, _∙_}
 use mathlib.Core.List.{List, _++_, append-nil}
 use lib.ListN.{length, take, drop, replicate, length-take, drop-of-length-le}
-use lib.Seq.{take-length}
+use lib.Seq.{take-length, take-all}
 use Rattle.common.specs.Spell.{spell}
 use Rattle.common.proofs.Spell.{spell-part, spell-all}
 use Rattle.image.specs.Image.{registersIn, laidOut}
@@ -22,6 +22,11 @@ module _ (s d e : List ℕ) (p : e ≡ take (length s) s ++ drop (length s) d) w
 module _ (l : List ℕ) (h : length l ≡ 64) where
   pub sixteen : 16 ≡ length (take 16 l)
   sixteen = simp length-take (omega arith)
+
+  pub loaded : (a : List ℕ) → a ≡ take (length (take 64 l)) (take 64 l) ++ drop (length (take 64 l)) (replicate 64 0) → a ≡ l
+  loaded a p =
+      let n : 64 ≡ length (take 64 l) = simp length-take (omega arith) in
+      whole (take 64 l) (replicate 64 0) a p n ∙ take-all 64 l (le-of-eq h)
 
   pub registers-copied : (r : List ℕ) → r ≡ take (length (take 16 l)) (take 16 l) ++ drop (length (take 16 l)) (replicate 16 0) → r ≡ registersIn l
   registers-copied r p = whole (take 16 l) (replicate 16 0) r p sixteen ∙ sym (spell-part 0 16 l (omega arith))

@@ -259,13 +259,13 @@ pub fn encode(p: Panel) -> [u8; 64]
     lay_out(registers, encode_fields(p, encode_lines(power)))
 }
 
-// The image's bytes by value.
+// The image's bytes by value. The part lent has a length that the compiler knows.
 pub fn load(image: &[u8]) -> [u8; 64]
     requires { ⌜ length (now image) ≡ SIZE ⌝ }
     ensures { λ r. ⌜ r ≡ now (image .entry) ⌝ }
 {
     let mut a = [0u8; 64];
-    bytes::copy(image, &mut a);
+    bytes::copy(&image[0..64], &mut a);
     a
 }
 

@@ -6,7 +6,7 @@ use mathlib.Core.Bool.{Bool, true, false, not, _||_}
 use mathlib.Core.List.{List, [], _∷_}
 use lib.ListN.{length, getD, replicate}
 use lib.Dec.{eqb, ltb, leb}
-use borrow.Author.Tests.{ltb-true, leb-true, eqb-true, lt-ltb, le-leb, eq-eqb, ne-eqb}
+use borrow.Author.Tests.{ltb-true, leb-true, eqb-true, lt-ltb, le-leb, eq-eqb}
 use Rattle.common.specs.Tests.{conj}
 use Rattle.common.specs.Spell.{spell}
 use Rattle.common.proofs.Each.{done, _also_}
@@ -32,10 +32,6 @@ zero-unless x n h e = eqb-true n 0 (rw e at h)
 unless-zero : (x : Bool) (n : ℕ) → (x ≡ true → n ≡ 0) → (not x || eqb n 0) ≡ true
 unless-zero true n h = eq-eqb n 0 (h refl)
 unless-zero false n h = refl
-
-pub not-sized : (l : List ℕ) → (length l ≡ SIZE → ⊥) → isValid l ≡ false
-unfolding isValid
-not-sized l n = ap (λ (b : Bool). conj (b ∷ conj (unnamedTests l) ∷ conj (tailTests l) ∷ conj (stateTests (decoded l)) ∷ [])) (ne-eqb (length l) SIZE n)
 
 module _ (l : List ℕ) (h : isValid l ≡ true) where
   test : (i : ℕ) → getD (validTests l) i true ≡ true

@@ -5,7 +5,7 @@ use mathlib.Core.Bool.{Bool, true, false, not, _&&_, and-true, and-false}
 use mathlib.Core.List.{List, [], _∷_}
 use lib.Dec.{eqb, leb}
 use lib.ListN.{length}
-use borrow.Author.Tests.{eq-eqb, not-true, not-false}
+use borrow.Author.Tests.{eq-eqb, ne-eqb, not-true, not-false}
 use Rattle.common.specs.Tests.{conj}
 use Rattle.registers.specs.Names.{at, WATCHDOG}
 use Rattle.registers.specs.Written.{reservedClear}
@@ -42,17 +42,22 @@ module _ (p : Panel) (v : Bool) (ev : v ≡ validCalendar (p .core .rtc .registe
 
 -- ---- the image
 
-module _ (l : List ℕ) (p : Panel) (ep : p ≡ decoded l) (s : Bool) (es : s ≡ conj (stateTests p)) where
+pub not-sized : (l : List ℕ) → (length l ≡ SIZE → ⊥) → false ≡ isValid l
+unfolding isValid
+not-sized l n = sym (ap (λ (b : Bool). conj (b ∷ conj (unnamedTests l) ∷ conj (tailTests l) ∷ conj (stateTests (decoded l)) ∷ [])) (ne-eqb (length l) SIZE n))
+
+module _ (l a : List ℕ) (ea : a ≡ l) (p : Panel) (ep : p ≡ decoded a) (s : Bool) (es : s ≡ conj (stateTests p)) where
   state-is : s ≡ conj (stateTests (decoded l))
-  state-is = es ∙ ap (λ (q : Panel). conj (stateTests q)) ep
+  state-is = es ∙ ap (λ (q : Panel). conj (stateTests q)) (ep ∙ ap decoded ea)
 
   pub not-sound : not s ≡ true → false ≡ isValid l
   unfolding isValid
   not-sound h = sym (ap (λ (b : Bool). eqb (length l) SIZE && conj (unnamedTests l) && conj (tailTests l) && b) (sym state-is ∙ not-true s h) ∙ and-false (eqb (length l) SIZE && conj (unnamedTests l) && conj (tailTests l)))
 
-  pub whole : not s ≡ false → length l ≡ SIZE → (u z : Bool) → u ≡ conj (unnamedTests l) → z ≡ conj (tailTests l) → (u && z) ≡ isValid l
+  pub whole : not s ≡ false → length l ≡ SIZE → (u z : Bool) → u ≡ conj (unnamedTests a) → z ≡ conj (tailTests a) → (u && z) ≡ isValid l
   unfolding isValid
   whole h n u z eu ez =
       (λ i. eu i && ez i)
+      ∙ ap (λ (m : List ℕ). conj (unnamedTests m) && conj (tailTests m)) ea
       ∙ sym (and-true (conj (unnamedTests l) && conj (tailTests l)))
       ∙ (λ i. sym (eq-eqb (length l) SIZE n) i && conj (unnamedTests l) && conj (tailTests l) && (sym (not-false s h) ∙ state-is) i)

@@ -109,12 +109,16 @@ fn is_sound(p: Panel) -> bool
         & ((remote.fresh != 0) | (remote.command == 0))
 }
 
-// Whether 64 bytes are a valid image.
-pub fn is_valid(image: [u8; 64]) -> bool
-    ensures { λ r. ⌜ r ≡ isValid image ⌝ }
+// Whether the bytes are a valid image.
+pub fn is_valid(image: &[u8]) -> bool
+    ensures { λ r. ⌜ r ≡ isValid (now (image .entry)) ⌝ }
 {
-    if !is_sound(image::decode(image)) {
+    if image.len() != 64 {
         return false;
     }
-    unnamed_clear(image) & tail_clear(image)
+    let a = image::load(image);
+    if !is_sound(image::decode(a)) {
+        return false;
+    }
+    unnamed_clear(a) & tail_clear(a)
 }

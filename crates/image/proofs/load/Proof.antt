@@ -1,10 +1,17 @@
 -- `image::load` meets its contract. Assumes nothing.
-use mathlib.Core.Path.{sym}
-use lib.ListN.{replicate}
 use borrow.Author.Needs.{needs}
-use Rattle.image.proofs.Copy.{whole}
+use Rattle.image.proofs.Copy.{loaded}
 use Rattle.image.proofs.load.Statement.{statement}
 use Rattle.image.proofs.load.Tie as tie
+
+sub-copy : tie.Need-sub-copy
+sub-copy c = search needs
+
+part-copy-start : tie.Need-part-copy-start
+part-copy-start c = search needs
+
+part-copy-end : tie.Need-part-copy-end
+part-copy-end c = search needs
 
 slice-aggregate-copy : tie.Need-slice-aggregate-copy
 slice-aggregate-copy c = search needs
@@ -14,8 +21,10 @@ copy-requires c κs = search needs
 
 returns : tie.Need-returns
 returns c =
-    let e = c .before .before .before .before in
-    whole (e .args .image .now) (replicate 64 0) _ (c .before .copy .ensures .1) (sym (e .pre))
+    let e = c .before .before .before .before .before in
+    loaded (e .args .image .now) (e .pre) _ (c .before .copy .ensures .1)
 
 pub load-spec : {M : Type 1} → statement M
-load-spec = tie.close (tie.spec slice-aggregate-copy copy-requires returns)
+load-spec =
+    tie.close
+    (tie.spec sub-copy part-copy-start part-copy-end slice-aggregate-copy copy-requires returns)
