@@ -269,6 +269,16 @@ pub fn load(image: &[u8]) -> [u8; 64]
     a
 }
 
+// The image's registers by value.
+pub fn load_registers(image: &[u8]) -> [u8; 16]
+    requires { ⌜ length (now image) ≡ SIZE ⌝ }
+    ensures { λ r. ⌜ r ≡ registersIn (now (image .entry)) ⌝ }
+{
+    let mut a = [0u8; 16];
+    bytes::copy(&image[0..16], &mut a);
+    a
+}
+
 // The bytes written to the image.
 pub fn save(image: &mut [u8], a: [u8; 64])
     requires { ⌜ length (now image) ≡ SIZE ⌝ }

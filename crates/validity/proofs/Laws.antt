@@ -11,6 +11,7 @@ use Rattle.common.specs.Tests.{conj}
 use Rattle.common.specs.Spell.{spell}
 use Rattle.common.proofs.Each.{done, _also_}
 use Rattle.common.proofs.Tests.{each, all-hold}
+use Rattle.timekeeper.specs.Clock.{validCalendar}
 use Rattle.controller.specs.Sound.{Sound, SoundRtc, SoundSetup, SoundPower, SoundKeys, SoundRemote}
 use Rattle.panel.specs.declared.Panel.{Panel}
 use Rattle.image.specs.Layout as at
@@ -39,13 +40,13 @@ module _ (l : List ℕ) (h : isValid l ≡ true) where
   test = each (validTests l) h
 
   unnamed : (i : ℕ) → getD (unnamedTests l) i true ≡ true
-  unnamed = each (unnamedTests l) (test 1)
+  unnamed = each (unnamedTests l) (test 2)
 
   state : (i : ℕ) → getD (stateTests (decoded l)) i true ≡ true
-  state = each (stateTests (decoded l)) (test 3)
+  state = each (stateTests (decoded l)) (test 4)
 
   range : (i : ℕ) → getD (rangeTests (decoded l)) i true ≡ true
-  range = each (rangeTests (decoded l)) (state 2)
+  range = each (rangeTests (decoded l)) (state 1)
 
   pub valid-length : length l ≡ SIZE
   valid-length = eqb-true (length l) SIZE (test 0)
@@ -56,11 +57,11 @@ module _ (l : List ℕ) (h : isValid l ≡ true) where
         record {
           sized = refl;
           bytes = spelt-byte l small 0 16;
-          calendar = state 0;
-          reserved = state 1;
+          calendar = test 1;
+          reserved = state 0;
           sixteenths = ltb-true _ _ (range 0);
           flags = ltb-true _ _ (unnamed 0);
-          watchdog = leb-true _ _ (state 6);
+          watchdog = leb-true _ _ (state 5);
         }
 
     setup-sound : SoundSetup (setupIn l)
@@ -68,12 +69,12 @@ module _ (l : List ℕ) (h : isValid l ≡ true) where
         record {
           configuration = ltb-true _ _ (unnamed 2);
           unnamed = eqb-true _ _ (unnamed 3);
-          protocol = state 3;
+          protocol = state 2;
           value = omega arith;
         }
 
     power-sound : SoundPower (setupIn l) (powerIn l)
-    power-sound = record { guard = leb-true _ _ (state 4); stopped = zero-unless (powerIn l .stby) (powerIn l .guard .0) (state 5) }
+    power-sound = record { guard = leb-true _ _ (state 3); stopped = zero-unless (powerIn l .stby) (powerIn l .guard .0) (state 4) }
 
     word-small : (i : ℕ) → wordAt l i < 2 ^ 16
     word-small i = omega (arith, small i, small (i + 1))
@@ -85,9 +86,9 @@ module _ (l : List ℕ) (h : isValid l ≡ true) where
     remote-sound =
         record {
           fresh = ltb-true _ _ (range 1);
-          address = eqb-true _ _ (state 7);
+          address = eqb-true _ _ (state 6);
           command = small 36;
-          stale = λ e. zero-unless (eqb (byteAt l 34) 0) (byteAt l 36) (state 8) (eq-eqb (byteAt l 34) 0 e);
+          stale = λ e. zero-unless (eqb (byteAt l 34) 0) (byteAt l 36) (state 7) (eq-eqb (byteAt l 34) 0 e);
         }
 
     core-sound : Sound 16 (coreIn l)
@@ -110,7 +111,7 @@ module _ (l : List ℕ) (h : isValid l ≡ true) where
     -- ---- A valid image is the image of its state
 
     tail : spell TAIL 20 l ≡ replicate 20 0
-    tail = zeros (spell TAIL 20 l) (test 2)
+    tail = zeros (spell TAIL 20 l) (test 3)
 
     pub encode-decode : encoded (decoded l) ≡ l
     encode-decode =
@@ -147,8 +148,7 @@ module _ (p : Panel) (s : SoundPanel p) where
       let c = p .core in
       let t = s .core in
       all-hold (stateTests p)
-      (t .rtc .calendar
-      also t .rtc .reserved
+      (t .rtc .reserved
       also in-ranges
       also t .setup .protocol
       also le-leb _ _ (t .power .guard)
@@ -162,4 +162,9 @@ module _ (p : Panel) (s : SoundPanel p) where
   unfolding isValid
   valid-encoded =
       all-hold (validTests (encoded p))
-      (refl also unnamed-clear also refl also (ap (λ (q : Panel). conj (stateTests q)) (decode-encode p s) ∙ state-valid) also done)
+      (refl
+      also (ap (λ (q : Panel). validCalendar (q .core .rtc .registers)) (decode-encode p s) ∙ s .core .rtc .calendar)
+      also unnamed-clear
+      also refl
+      also (ap (λ (q : Panel). conj (stateTests q)) (decode-encode p s) ∙ state-valid)
+      also done)

@@ -15,7 +15,7 @@ use Rattle.controller.specs.Standby.{guardLoad}
 use Rattle.controller.specs.Sound.{knownProtocol}
 use Rattle.panel.specs.declared.Panel.{Panel}
 use Rattle.image.specs.Layout.{SIZE, FLAGS, LINES, CONFIGURATION, PROTOCOL, CONTROL, TAIL, byteAt}
-use Rattle.image.specs.Image.{decoded}
+use Rattle.image.specs.Image.{registersIn, decoded}
 
 -- ---- Bits and bytes without a name
 
@@ -68,8 +68,7 @@ commandZero c = not (eqb (c .remote .fresh) 0) || eqb (c .remote .command) 0
 
 abbrev pub stateTests : Panel → List Bool
 stateTests p =
-    validCalendar (p .core .rtc .registers)
-    ∷ reservedClear (p .core .rtc .registers)
+    reservedClear (p .core .rtc .registers)
     ∷ conj (rangeTests p)
     ∷ knownProtocol (p .core .setup .protocol)
     ∷ guardWithin (p .core)
@@ -80,7 +79,7 @@ stateTests p =
     ∷ []
 
 abbrev pub validTests : List ℕ → List Bool
-validTests l = eqb (length l) SIZE ∷ conj (unnamedTests l) ∷ conj (tailTests l) ∷ conj (stateTests (decoded l)) ∷ []
+validTests l = eqb (length l) SIZE ∷ validCalendar (registersIn l) ∷ conj (unnamedTests l) ∷ conj (tailTests l) ∷ conj (stateTests (decoded l)) ∷ []
 
 unfoldable pub isValid : List ℕ → Bool
 isValid l = conj (validTests l)

@@ -87,7 +87,7 @@ fn watchdog_within(core: Core) -> bool
     rtc.watchdog.0 <= load.0
 }
 
-// Whether the state is one that a valid image holds.
+// Whether the state, its calendar apart, is one that a valid image holds.
 fn is_sound(p: Panel) -> bool
     ensures { λ r. ⌜ r ≡ conj (stateTests p) ⌝ }
 {
@@ -96,9 +96,6 @@ fn is_sound(p: Panel) -> bool
     let registers = rtc.registers;
     let protocol = core.setup.protocol;
     let remote = core.remote;
-    if !timekeeper::valid(registers) {
-        return false;
-    }
     registers::reserved_clear(registers)
         & in_ranges(p)
         & ((protocol == 0) | (protocol == 2) | (protocol == 4))
@@ -116,9 +113,9 @@ pub fn is_valid(image: &[u8]) -> bool
     if image.len() != 64 {
         return false;
     }
-    let a = image::load(image);
-    if !is_sound(image::decode(a)) {
+    if !timekeeper::valid(image::load_registers(image)) {
         return false;
     }
-    unnamed_clear(a) & tail_clear(a)
+    let a = image::load(image);
+    unnamed_clear(a) & tail_clear(a) & is_sound(image::decode(a))
 }

@@ -1,14 +1,8 @@
 -- `validity::is_sound` meets its contract. Assumes nothing.
 use borrow.Author.Needs.{needs}
-use Rattle.validity.proofs.Tests.{no-calendar, state-tests}
+use Rattle.validity.proofs.Tests.{state-tests}
 use Rattle.validity.proofs.is_sound.Statement.{statement}
 use Rattle.validity.proofs.is_sound.Tie as tie
-
-valid-requires : tie.Need-valid-requires
-valid-requires c κs = search needs
-
-returns : tie.Need-returns
-returns c = search (needs, no-calendar)
 
 reserved-clear-requires : tie.Need-reserved-clear-requires
 reserved-clear-requires c κs = search needs
@@ -22,17 +16,15 @@ guard-within-requires c κs = search needs
 watchdog-within-requires : tie.Need-watchdog-within-requires
 watchdog-within-requires c κs = search needs
 
-returns-2 : tie.Need-returns-2
-returns-2 c = search (needs, state-tests)
+returns : tie.Need-returns
+returns c = search (needs, state-tests)
 
 pub is-sound-spec : {M : Type 1} → statement M
 is-sound-spec =
     tie.close
     (tie.spec
-    valid-requires
-    returns
     reserved-clear-requires
     in-ranges-requires
     guard-within-requires
     watchdog-within-requires
-    returns-2)
+    returns)
