@@ -235,7 +235,7 @@ static void night(void)
     draw(1);
 
     wait_until(AT(MONDAY, 22, 40, 0));
-    caption("The porter presses the power key. It is hot: the panel wakes the board.");
+    caption("The porter presses the power key, KEY1 on KS1. It is hot: the panel wakes the board.");
     press(POWER_KEY);
     draw(1);
 
@@ -249,6 +249,10 @@ static void night(void)
     host("interrupt: a key, in standby", read_interrupt, sizeof read_interrupt, reply, sizeof reply);
     draw(1);
 
+}
+
+static void small_hours(void)
+{
     wait_until(AT(MONDAY, 22, 45, 0));
     caption("The porter is done. The host lets READY fall, and the panel sleeps again.");
     ready(0);
@@ -270,7 +274,7 @@ static void morning(void)
 
     must(stled325_supply_return(image, sizeof image, (uint32_t)cut), "supply return");
     now += cut;
-    caption("The supply returns. The panel is awake, its display still off.");
+    caption("The supply returns. The alarm within the cut is noted; the panel is awake, its display still off.");
     printf("    the cut took %lu s, and 07:30:00 fell within it\n", cut);
     draw(1);
 
@@ -319,7 +323,7 @@ int main(int argc, char **argv)
     int i;
 
     for (i = 1; i < argc; i++) {
-        if (strcmp(argv[i], "--help") == 0) {
+        if (strcmp(argv[i], "--help") == 0 || strcmp(argv[i], "-h") == 0) {
             fputs(help, stdout);
             return EXIT_SUCCESS;
         } else if (strcmp(argv[i], "--watch") == 0) {
@@ -338,8 +342,14 @@ int main(int argc, char **argv)
     }
     colours = isatty(STDOUT_FILENO);
 
+    puts("Lamps, (*) lit: STBY the main board is off, MUTE the sound is off, IRQ the panel calls the host.\n");
     evening();
     night();
+    small_hours();
     morning();
+    if (fflush(stdout) != 0 || ferror(stdout)) {
+        perror("night: the output could not be written");
+        return EXIT_FAILURE;
+    }
     return EXIT_SUCCESS;
 }

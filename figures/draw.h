@@ -10,7 +10,7 @@ uint32_t below(uint32_t limit);
 /* True once in so many times on average. */
 int once_in(uint32_t times);
 
-/* Any valid image, with a liking for moments at which something is about to happen. */
+/* Any valid image, often one at which something is about to happen. */
 void random_image(uint8_t *image);
 
 /* Any call, drawn to suit the image. */

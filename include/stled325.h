@@ -11,7 +11,11 @@
  *     uint8_t image[STLED325_IMAGE_LEN];
  *     stled325_power_up(image, sizeof image);       once, at first power
  *     stled325_tick(image, sizeof image);           sixteen times a second
+ *     stled325_ready(image, sizeof image, level);   at each change of READY
  *     stled325_key_sample(image, sizeof image, k);  at each scan of the keys
+ *
+ * Power-up starts a guard of 10 seconds: standby begins at its end unless READY
+ * has risen or a command has set the guard anew.
  *
  * EVERY CALL returns 0 if it was accepted, or else the number of the first
  * ground of refusal that holds (enum stled325_refusal, checked in the order of
@@ -131,7 +135,8 @@ enum stled325_refusal {
 #define STLED325_REG_SECONDS       0x01u /* OSC_ST, seconds 00-59               */
 #define STLED325_REG_MINUTES       0x02u /* minutes 00-59                       */
 #define STLED325_REG_HOURS         0x03u /* MD_H, M_MS, hours 00-23             */
-#define STLED325_REG_DAY           0x04u /* day of week 1-7                     */
+#define STLED325_REG_DAY           0x04u /* day of week 1-7; which day is 1 is  */
+                                         /* yours (power-up fits 1 = Sunday)    */
 #define STLED325_REG_DATE          0x05u /* date 01-31                          */
 #define STLED325_REG_CENTURY_MONTH 0x06u /* CB1, CB0, month 01-12               */
 #define STLED325_REG_YEAR          0x07u /* year 00-99                          */
@@ -144,6 +149,10 @@ enum stled325_refusal {
 #define STLED325_REG_AL_SEC        0x0Eu /* RPT1, alarm second                  */
 #define STLED325_REG_AL_DAY        0x0Fu /* WDFEn, alarm day of week in b6..b4  */
 
+/* An alarm every day at 07:30:00, also over a supply cut: write
+       AFE | ABE,  RPT4 | RPT5,  RPT6 | 07h,  30h,  00h
+   from 0Ah on. Alarm fields are BCD and are not checked: one that is no possible
+   time is stored and never matches. */
 #define STLED325_OSC_ST   0x80u /* 01h: the oscillator is stopped             */
 #define STLED325_MD_H     0x80u /* 03h: the face shows month and date         */
 #define STLED325_M_MS     0x40u /* 03h: the face shows minutes and seconds    */
@@ -253,15 +262,19 @@ uint32_t stled325_tick(uint8_t *image, size_t image_len);
  *   70h, a               Replies registers a..0Fh, as many as out holds.
  *   100xxxxx             Display: b4 on, b3..b0 brightness.
  *   A0h, low, high       Mask of the hot keys.
- *   C1h                  Standby begins.
+ *   C1h                  Standby begins. What ends it: an accepted hot key, a
+ *                        remote key with configuration b2, WAKE_UP rising with
+ *                        b5, an alarm or a watchdog event, power-up, supply
+ *                        return; no command does, nor does READY.
  *   C2h                  Reloads the guard if it is running.
  *
  * Refused: 1; 2 if bytes_len is 0; 3 in standby; 4 for any other first byte;
  * 5 if a needed byte is missing (for 40h and 50h also if no data follow) or
  * out is shorter than the reply of 61h, 62h, 63h; 6 if a is not 10h..14h for
  * 40h, 01h..0Fh for 50h, 00h..0Fh for 70h; 7 if the protocol in setup is not
- * 0, 2 or 4; 8 if digits is not 1 to 5; 9 if the registers would hold no valid
- * calendar after a 50h, weekday 1 to 7 included.
+ * 0, 2 or 4; 8 if digits is not 1 to 5; 9 if after a 50h a field of the
+ * calendar were not BCD or out of range, the weekday among them, or the date
+ * did not exist in its month.
  */
 uint32_t stled325_command(uint8_t *image, size_t image_len,
                           const uint8_t *bytes, size_t bytes_len,

@@ -19,8 +19,9 @@ use Rattle.supply.specs.Return.{panelReturned}
 use Rattle.image.specs.Layout.{byteAt}
 use Rattle.image.specs.Image.{decoded, encoded}
 use Rattle.validity.specs.Valid.{isValid}
+use Rattle.events.specs.Show.{shownIn}
 use Rattle.stled325.specs.Outcome.{Outcome, decided}
-use Rattle.stled325.specs.Calls.{powerUpGrounds, eventGrounds, high, keyedBy, frameGrounds, supplyGrounds, viewGrounds, shownOf, linesIn}
+use Rattle.stled325.specs.Calls.{powerUpGrounds, eventGrounds, high, keyedBy, frameGrounds, supplyGrounds, viewGrounds, linesIn}
 use Rattle.stled325.specs.Command.{commandGrounds}
 
 -- ---- Events
@@ -100,7 +101,7 @@ replyAfter (frame n) l o = o
 replyAfter (ready level) l o = o
 replyAfter (wakeUp level) l o = o
 replyAfter (command s) l o = outputAfter (decoded l .core) (commandOf s) o
-replyAfter show l o = shownOf (decoded l)
+replyAfter show l o = shownIn (decoded l)
 replyAfter lines l o = linesIn (decoded l .core)
 replyAfter (supplyReturn n) l o = o
 

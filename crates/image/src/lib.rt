@@ -81,7 +81,7 @@ fn decode_sixteenths(image: [u8; 64], at: usize) -> Sixteenths
 }
 
 // The clock registers.
-pub fn decode_registers(image: [u8; 64]) -> [u8; 16]
+fn decode_registers(image: [u8; 64]) -> [u8; 16]
     ensures { λ r. ⌜ r ≡ registersIn image ⌝ }
 {
     let mut registers = [0u8; 16];
@@ -259,7 +259,7 @@ pub fn encode(p: Panel) -> [u8; 64]
     lay_out(registers, encode_fields(p, encode_lines(power)))
 }
 
-// The image's bytes by value. The part lent has a length that the compiler knows.
+// The image's bytes by value; the compiler copies 64 bytes faster than as many as there are.
 pub fn load(image: &[u8]) -> [u8; 64]
     requires { ⌜ length (now image) ≡ SIZE ⌝ }
     ensures { λ r. ⌜ r ≡ now (image .entry) ⌝ }

@@ -23,8 +23,9 @@ use Rattle.calendar.specs.Clock.{Valid}
 use Rattle.timekeeper.specs.Clock.{clockOf}
 use Rattle.properties.proofs.SoundParts.{valid-clock-of}
 use Rattle.supply.specs.Return.{LIMIT}
+use Rattle.events.specs.Show.{shownIn}
 use Rattle.stled325.specs.Outcome.{outcome, decided, invalid}
-use Rattle.stled325.specs.Calls.{powerUpGrounds, powerUpCall, eventGrounds, imageAfter, eventCall, received, isNoKey, keyedBy, frameGrounds, frameCall, supplyGrounds, imageReturned, supplyReturnCall, viewGrounds, shownOf, showCall, linesIn, linesCall}
+use Rattle.stled325.specs.Calls.{powerUpGrounds, powerUpCall, eventGrounds, imageAfter, eventCall, received, isNoKey, keyedBy, frameGrounds, frameCall, supplyGrounds, imageReturned, supplyReturnCall, viewGrounds, showCall, linesIn, linesCall}
 use Rattle.stled325.proofs.Decided.{accepted, refused, first-holds, first-passed, not-valid}
 
 -- ---- power-up
@@ -96,8 +97,8 @@ module _ (l : List ℕ) (v : Bool) (e : v ≡ isValid l) where
     view-done : (size : ℕ) (q : List ℕ) → length o ≡ size → outcome 0 l q ≡ decided (viewGrounds size l o) l o l q
     view-done size q n = accepted (viewGrounds size l o) l o l q (good h, ((λ i. not (eq-eqb (length o) size n i)), tt))
 
-    pub show-done : length o ≡ 5 → (m : List ℕ) → m ≡ shownOf (decoded l) → outcome 0 l m ≡ showCall l o
-    show-done n m em = ap (outcome 0 l) em ∙ view-done 5 (shownOf (decoded l)) n
+    pub show-done : length o ≡ 5 → (m : List ℕ) → m ≡ shownIn (decoded l) → outcome 0 l m ≡ showCall l o
+    show-done n m em = ap (outcome 0 l) em ∙ view-done 5 (shownIn (decoded l)) n
 
     -- lines, by what is read of the copied image a
     pub lines-done : (a : List ℕ) → a ≡ l → length o ≡ 1 → (p : Power) → p ≡ decoded a .core .power → (x : ℕ) → x ≡ decoded a .core .interrupt → (b : ℕ) → b ≡ linesOf (p .ready) (p .stby) x → outcome 0 l (set o 0 b) ≡ linesCall l o

@@ -13,7 +13,6 @@ use Rattle.controller.specs.Tick.{ticked}
 use Rattle.controller.specs.Keys.{sampled}
 use Rattle.controller.specs.Remote.{keyed}
 use Rattle.controller.specs.Pins.{readySet, wakeUpSet}
-use Rattle.display.specs.Shown.{shown}
 use Rattle.display.specs.Lines.{linesOf}
 use Rattle.panel.specs.declared.Panel.{Panel}
 use Rattle.panel.specs.State.{onCore}
@@ -21,6 +20,7 @@ use Rattle.panel.specs.PowerUp.{panelPoweredUp}
 use Rattle.supply.specs.Return.{LIMIT, panelReturned}
 use Rattle.image.specs.Layout.{SIZE}
 use Rattle.image.specs.Image.{decoded, encoded}
+use Rattle.events.specs.Show.{shownIn}
 use Rattle.stled325.specs.Outcome.{Outcome, decided, invalid}
 
 -- ---- Power-up takes any 64 bytes
@@ -97,11 +97,8 @@ supplyReturnCall l n = decided (supplyGrounds l n) l [] (imageReturned l n) []
 abbrev pub viewGrounds : ℕ → List ℕ → List ℕ → List Ground
 viewGrounds size l o = invalid l ∷ ground 12 (not (eqb (length o) size)) ∷ []
 
-abbrev pub shownOf : Panel → List ℕ
-shownOf p = shown (p .core .rtc .registers) (p .core .setup .configuration) (p .core .power .stby) (p .display)
-
 abbrev pub showCall : List ℕ → List ℕ → Outcome
-showCall l o = decided (viewGrounds 5 l o) l o l (shownOf (decoded l))
+showCall l o = decided (viewGrounds 5 l o) l o l (shownIn (decoded l))
 
 abbrev pub linesIn : Core → List ℕ
 linesIn c = linesOf (c .power .ready) (c .power .stby) (c .interrupt) ∷ []

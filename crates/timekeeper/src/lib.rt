@@ -93,7 +93,7 @@ fn decimal_fields(registers: [u8; 16]) -> bool
         & (year % 16 <= 9)
 }
 
-// Whether the registers hold a calendar that exists. Bytes of two decimal digits are in the order of their numbers.
+// Whether the registers hold a calendar that exists; bytes of two decimal digits are in the order of their numbers.
 pub fn valid(registers: [u8; 16]) -> bool
     ensures { λ r. ⌜ r ≡ validCalendar registers ⌝ }
 {

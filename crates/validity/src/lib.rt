@@ -5,6 +5,8 @@ ghost use Rattle.validity.specs.Valid.{unnamedTests, tailTests, rangeTes
 use controller::Core;
 use panel::Panel;
 
+const SIZE: usize = 64;
+
 const FLAGS: usize = 17;
 
 const LINES: usize = 19;
@@ -18,7 +20,7 @@ const CONTROL: usize = 38;
 // Register 09h.
 const WATCHDOG: usize = 0x09;
 
-// Whether the bytes without a use are 0.
+// Whether the bytes from 44 on, which have no use, are 0.
 fn tail_clear(image: [u8; 64]) -> bool
     ensures { λ r. ⌜ r ≡ conj (tailTests image) ⌝ }
 {
@@ -110,7 +112,7 @@ fn is_sound(p: Panel) -> bool
 pub fn is_valid(image: &[u8]) -> bool
     ensures { λ r. ⌜ r ≡ isValid (now (image .entry)) ⌝ }
 {
-    if image.len() != 64 {
+    if image.len() != SIZE {
         return false;
     }
     if !timekeeper::valid(image::load_registers(image)) {

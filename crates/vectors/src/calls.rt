@@ -56,12 +56,21 @@ fn is_decimal(word: u8) -> bool {
     (word == b't') | (word == b'o')
 }
 
+// An event with the number that its arguments write.
+fn event_after(word: u8, image: &mut [u8], arguments: &[u8], decimal: bool) -> u32 {
+    let base = if decimal { 10 } else { 16 };
+    if !text::is_number(arguments, base) {
+        return NONE;
+    }
+    event(word, image, text::number(arguments, !decimal))
+}
+
 // The call of a word, which is known by its first letter.
 pub fn call(word: u8, image: &mut [u8], arguments: &[u8], out: &mut [u8]) -> u32 {
     match word {
         b'c' => command(image, arguments, out),
         b'l' => stled325_lines(image, out),
         b's' => stled325_show(image, out),
-        _ => event(word, image, text::number(arguments, !is_decimal(word))),
+        _ => event_after(word, image, arguments, is_decimal(word)),
     }
 }

@@ -106,6 +106,9 @@ fn is_answered(word: u8, arguments: &[u8], answer: &[u8], images: &mut [u8]) -> 
     let mut written = [0xEEu8; 25];
     let mut got = [0xEEu8; 25];
     let end = text::fill(answer, &mut written, 0);
+    if (end < 1) | (end > 25) {
+        return false;
+    }
     make(word, arguments, images, &mut got, end);
     report::are_same(b" >", &got, &written)
 }

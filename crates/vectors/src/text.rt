@@ -50,6 +50,19 @@ pub fn wide(d: u8) -> u64
     d as u64
 }
 
+// Whether a text has nothing but digits below a base, and spaces and dashes between them.
+pub fn is_number(text: &[u8], base: u8) -> bool {
+    let mut i = 0;
+    while i < text.len() {
+        let c = text[i];
+        if (c != b' ') & (c != b'-') & (digit(c) >= base) {
+            return false;
+        }
+        i += 1;
+    }
+    true
+}
+
 // A number with a further character, which counts if it is a digit.
 fn with_character(number: u64, c: u8, hexadecimal: bool) -> u64 {
     let d = digit(c);
