@@ -51,18 +51,13 @@ fn event(word: u8, image: &mut [u8], n: u64) -> u32 {
     }
 }
 
-// Whether the argument of a word is a decimal number.
-fn is_decimal(word: u8) -> bool {
-    (word == b't') | (word == b'o')
-}
-
-// An event with the number that its arguments write.
-fn event_after(word: u8, image: &mut [u8], arguments: &[u8], decimal: bool) -> u32 {
-    let base = if decimal { 10 } else { 16 };
-    if !text::is_number(arguments, base) {
+// An event with the number that its arguments write; of ticks and of an outage it is decimal.
+fn event_after(word: u8, image: &mut [u8], arguments: &[u8]) -> u32 {
+    let n = text::number(arguments, (word == b't') | (word == b'o'));
+    if n == text::NO_NUMBER {
         return NONE;
     }
-    event(word, image, text::number(arguments, !decimal))
+    event(word, image, n)
 }
 
 // The call of a word, which is known by its first letter.
@@ -71,6 +66,6 @@ pub fn call(word: u8, image: &mut [u8], arguments: &[u8], out: &mut [u8]) -> u32
         b'c' => command(image, arguments, out),
         b'l' => stled325_lines(image, out),
         b's' => stled325_show(image, out),
-        _ => event_after(word, image, arguments, is_decimal(word)),
+        _ => event_after(word, image, arguments),
     }
 }

@@ -8,6 +8,9 @@ const NONE: u8 = 16;
 // What fill answers where a text has anything but bytes and places.
 pub const UNREADABLE: usize = 1000;
 
+// What number answers where a text has anything but digits of its base.
+pub const NO_NUMBER: u64 = 1_000_000_000_000;
+
 // The value of a hexadecimal digit.
 fn digit(c: u8) -> u8
     ensures { λ r. ⌜ r ≤ 16 ⌝ }
@@ -50,38 +53,29 @@ pub fn wide(d: u8) -> u64
     d as u64
 }
 
-// Whether a text has nothing but digits below a base, and spaces and dashes between them.
-pub fn is_number(text: &[u8], base: u8) -> bool {
-    let mut i = 0;
-    while i < text.len() {
-        let c = text[i];
-        if (c != b' ') & (c != b'-') & (digit(c) >= base) {
-            return false;
-        }
-        i += 1;
-    }
-    true
-}
-
-// A number with a further character, which counts if it is a digit.
-fn with_character(number: u64, c: u8, hexadecimal: bool) -> u64 {
-    let d = digit(c);
-    if d == NONE {
-        return number;
-    }
+// A number with a further digit.
+fn with_digit(number: u64, d: u8, decimal: bool) -> u64 {
     let n = number % 4_294_967_296;
-    if hexadecimal {
-        return n * 16 + wide(d);
+    if decimal {
+        n * 10 + wide(d)
+    } else {
+        n * 16 + wide(d)
     }
-    n * 10 + wide(d)
 }
 
-// The number that the digits of a text make.
-pub fn number(text: &[u8], hexadecimal: bool) -> u64 {
+// The number that the digits of a text make, with spaces and dashes between them.
+pub fn number(text: &[u8], decimal: bool) -> u64 {
+    let base = if decimal { 10 } else { 16 };
     let mut n = 0;
     let mut i = 0;
     while i < text.len() {
-        n = with_character(n, text[i], hexadecimal);
+        let c = text[i];
+        let d = digit(c);
+        if d < base {
+            n = with_digit(n, d, decimal);
+        } else if (c != b' ') & (c != b'-') {
+            return NO_NUMBER;
+        }
         i += 1;
     }
     n
@@ -120,14 +114,16 @@ pub fn fill(text: &[u8], bytes: &mut [u8], from: usize) -> usize {
         if text.len() - i < 3 {
             return at;
         }
-        if (text[i + 1] == b' ') | (text[i + 1] == b'@') {
+        let mark = text[i];
+        let high = text[i + 1];
+        if (high == b' ') | (high == b'@') {
             i += 1;
         } else {
-            let value = pair(text[i + 1], text[i + 2]);
+            let value = pair(high, text[i + 2]);
             if value == UNREADABLE {
                 return UNREADABLE;
             }
-            at = put(bytes, text[i], at, from, value);
+            at = put(bytes, mark, at, from, value);
             i += 3;
         }
     }

@@ -5,19 +5,25 @@ use Rattle.vectors.proofs.text.number.Statement.{statement}
 use Rattle.vectors.proofs.text.number.Tie as tie
 
 abbrev Inv-loop : tie.InvT-loop
-Inv-loop text hexadecimal n₀ i₀ n i = i ≤ length text
+Inv-loop text decimal base n₀ i₀ n i = i ≤ length text
 
 abbrev μ-loop : tie.MeasureT-loop
-μ-loop text hexadecimal n₀ i₀ n i = length text - i
+μ-loop text decimal base n₀ i₀ n i = length text - i
 
 loop-holds : tie.Need-loop-holds Inv-loop μ-loop
 loop-holds c = search needs
 
-shared-slice-read-with-character : tie.Need-shared-slice-read-with-character Inv-loop μ-loop
-shared-slice-read-with-character c = search needs
+shared-slice-read-c : tie.Need-shared-slice-read-c Inv-loop μ-loop
+shared-slice-read-c c = search needs
 
-with-character-requires : tie.Need-with-character-requires Inv-loop μ-loop
-with-character-requires c κs = search needs
+digit-requires : tie.Need-digit-requires Inv-loop μ-loop
+digit-requires c κs = search needs
+
+with-digit-requires : tie.Need-with-digit-requires Inv-loop μ-loop
+with-digit-requires c κs = search needs
+
+returns : tie.Need-returns Inv-loop μ-loop
+returns c = search needs
 
 add-i : tie.Need-add-i Inv-loop μ-loop
 add-i c = search needs
@@ -28,8 +34,8 @@ loop-less c = search needs
 loop-again : tie.Need-loop-again Inv-loop μ-loop
 loop-again c = search needs
 
-returns : tie.Need-returns Inv-loop μ-loop
-returns c = search needs
+returns-2 : tie.Need-returns-2 Inv-loop μ-loop
+returns-2 c = search needs
 
 pub number-spec : {M : Type 1} → statement M
 number-spec =
@@ -38,9 +44,11 @@ number-spec =
     Inv-loop
     μ-loop
     loop-holds
-    shared-slice-read-with-character
-    with-character-requires
+    shared-slice-read-c
+    digit-requires
+    with-digit-requires
+    returns
     add-i
     loop-less
     loop-again
-    returns)
+    returns-2)
