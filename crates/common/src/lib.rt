@@ -1,7 +1,7 @@
-// What every crate shares: a bit by its weight, a byte by its place. The definitions and laws that all crates cite are in specs/ and proofs/.
+// What every crate shares: a bit by its weight, a byte by its place, the smaller of two lengths. The definitions and laws that all crates cite are in specs/ and proofs/.
 ghost use mathlib.Core.Path.{_≡_};
 ghost use mathlib.Core.Bool.{cond};
-ghost use Prim.Native.Nat.{_<_, _≤_};
+ghost use Prim.Native.Nat.{_<_, _≤_, min};
 ghost use lib.ListN.{getD};
 ghost use Rattle.common.specs.Bits.{bitSet};
 
@@ -26,4 +26,11 @@ pub fn byte_or(bytes: &[u8], i: usize, other: u8) -> u8
     ensures { λ r. ⌜ r ≡ getD (now (bytes .entry)) i other ⌝ }
 {
     if i < bytes.len() { bytes[i] } else { other }
+}
+
+// The smaller of two lengths.
+pub fn shorter(x: usize, y: usize) -> usize
+    ensures { λ r. ⌜ r ≡ min x y ⌝ }
+{
+    if x <= y { x } else { y }
 }

@@ -6,18 +6,12 @@ ghost use Rattle.display.specs.Face.{placed, faceOf};
 ghost use Rattle.display.specs.Shown.{fiveDigits, shown};
 ghost use Rattle.display.specs.Lines.{mute, irq, linesOf};
 ghost use lib.ListN.{take};
-
-const SECONDS: usize = 0x01;
-
-const MINUTES: usize = 0x02;
-
-const HOURS: usize = 0x03;
-
-const DATE: usize = 0x05;
-
-const MONTH: usize = 0x06;
-
-const CALIBRATION: usize = 0x08;
+use registers::CALIBRATION;
+use registers::DATE;
+use registers::HOURS;
+use registers::MINUTES;
+use registers::MONTH;
+use registers::SECONDS;
 
 // 03h b7 and b6.
 const MD_H: u8 = 128;

@@ -5,7 +5,7 @@ use lib.ListN.{getD}
 use Rattle.registers.specs.Names.{SECONDS, ALARM-MONTH}
 use Rattle.registers.specs.Names as register
 use Rattle.panel.specs.PowerUp.{panelPoweredUp}
-use Rattle.image.specs.Layout.{SIXTEENTHS, FLAGS, INTERRUPT, LINES, PROTOCOL, GUARD, WATCHDOG, FRESH}
+use Rattle.image.specs.Layout.{SIXTEENTHS, FLAGS, INTERRUPT, PINS, PROTOCOL, GUARD, WATCHDOG, FRESH}
 use Rattle.image.specs.Image.{encoded}
 use Rattle.edges.specs.Entry.{ticks, command, frame, supplyReturn, Entry, entry, replaced}
 
@@ -42,11 +42,11 @@ abbrev pub alarmed : List ℕ → ℕ → ℕ → List ℕ
 alarmed calendar flags interrupt =
     replaced ALARM-MONTH (0xA0 ∷ 0xC0 ∷ 0x47 ∷ 0x30 ∷ 0x00 ∷ []) (replaced FLAGS (flags ∷ interrupt ∷ []) (dated calendar))
 
--- guard value 1 with b0: seconds, sixteenths, lines and guard left
+-- guard value 1 with b0: seconds, sixteenths, pins and guard left
 abbrev pub guarded : ℕ → ℕ → ℕ → ℕ → List ℕ
-guarded second sixteenths lines guard =
+guarded second sixteenths pins guard =
     replaced SECONDS (second ∷ [])
-    (replaced SIXTEENTHS (sixteenths ∷ []) (replaced LINES (lines ∷ 0x01 ∷ 0x01 ∷ guard ∷ []) start))
+    (replaced SIXTEENTHS (sixteenths ∷ []) (replaced PINS (pins ∷ 0x01 ∷ 0x01 ∷ guard ∷ []) start))
 
 abbrev pub table : List Entry
 table =

@@ -9,9 +9,9 @@ use Rattle.common.proofs.Each.{Each, each-at, done, _also_}
 use Rattle.controller.specs.declared.Power.{Power}
 use Rattle.panel.specs.declared.Panel.{Panel}
 use Rattle.image.specs.Layout.{SIZE, byteAt, low, high, wordBytes}
-use Rattle.image.specs.Image.{linesByte, statusBytes, wordsOf, remoteBytes, encoded}
+use Rattle.image.specs.Image.{pinsByte, statusBytes, wordsOf, remoteBytes, encoded}
 use Rattle.image.specs.Sound.{SoundPanel}
-use Rattle.image.proofs.Numbers.{lines-small}
+use Rattle.image.proofs.Numbers.{pins-small}
 
 pub encoded-length : (p : Panel) → length (encoded p) ≡ SIZE
 encoded-length p = refl
@@ -49,7 +49,7 @@ module _ (p : Panel) (s : SoundPanel p) where
       let t = s .core in
       each-at Byte (encoded p) 0 (
       spelt (c .rtc .registers) (t .rtc .bytes) 0 16
-      then (omega arith also omega (arith, t .rtc .flags) also t .interrupt also omega (arith, lines-small (c .power .ready) (c .power .wakeup) (c .power .stby)) also omega (arith, t .setup .configuration) also omega arith also done)
+      then (omega arith also omega (arith, t .rtc .flags) also t .interrupt also omega (arith, pins-small (c .power .ready) (c .power .wakeup) (c .power .stby)) also omega (arith, t .setup .configuration) also omega arith also done)
       then word (c .power .guard .0)
       then word (c .rtc .watchdog .0)
       then word (c .keys .mask)

@@ -19,9 +19,9 @@ use Rattle.controller.specs.State.{rtc, power, keys, sixteenths}
 use Rattle.panel.specs.declared.Panel.{Panel}
 use Rattle.image.specs.Layout as at
 use Rattle.image.specs.Layout.{SIZE, byteAt, wordAt, low, high}
-use Rattle.image.specs.Image.{rtcIn, powerIn, setupIn, keysIn, displayIn, decoded, linesByte, statusBytes, wordsOf, encoded}
+use Rattle.image.specs.Image.{rtcIn, powerIn, setupIn, keysIn, displayIn, decoded, pinsByte, statusBytes, wordsOf, encoded}
 use Rattle.image.specs.Sound.{SoundPanel}
-use Rattle.image.proofs.Numbers.{low-back, high-back, word-back, setup-back, protocol-back, value-back, lines-back, bits-back, byte-back}
+use Rattle.image.proofs.Numbers.{low-back, high-back, word-back, setup-back, protocol-back, value-back, pins-back, bits-back, byte-back}
 
 -- ---- From an image to its state and back
 
@@ -29,7 +29,7 @@ use Rattle.image.proofs.Numbers.{low-back, high-back, word-back, setup-
 pub record Whole (l : List ℕ) : Type 0 where
   pub sized : length l ≡ SIZE
   pub bytes : (i : ℕ) → byteAt l i < 256
-  pub lines : byteAt l at.LINES < 8
+  pub pins : byteAt l at.PINS < 8
   pub setup : byteAt l at.PROTOCOL < 128
   pub zeros : spell at.TAIL 20 l ≡ replicate 20 0
 
@@ -40,9 +40,9 @@ module _ (l : List ℕ) (w : Whole l) where
   high-at : (i : ℕ) → high (wordAt l i) ≡ byteAt l (i + 1)
   high-at i = high-back (byteAt l i) (byteAt l (i + 1)) (w .bytes i) (w .bytes (i + 1))
 
-  status-back : statusBytes (decoded l .core) (linesByte (decoded l .core .power)) ≡ spell 16 6 l
+  status-back : statusBytes (decoded l .core) (pinsByte (decoded l .core .power)) ≡ spell 16 6 l
   status-back =
-      λ i. byte-back (byteAt l 16) (w .bytes 16) i ∷ byteAt l 17 ∷ byteAt l 18 ∷ lines-back (byteAt l 19) (w .lines) i
+      λ i. byte-back (byteAt l 16) (w .bytes 16) i ∷ byteAt l 17 ∷ byteAt l 18 ∷ pins-back (byteAt l 19) (w .pins) i
       ∷ byteAt l 20 ∷ setup-back (byteAt l 21) (w .setup) i ∷ []
 
   words-back : wordsOf (decoded l .core) ≡ spell 22 12 l

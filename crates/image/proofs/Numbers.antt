@@ -7,7 +7,7 @@ use lib.Dec.{eqb, lit<}
 use Rattle.common.specs.Bits.{bitSet}
 use Rattle.controller.specs.declared.Power.{Power}
 use Rattle.image.specs.Layout.{low, high, READY, WAKE-UP, STBY}
-use Rattle.image.specs.Image.{linesByte}
+use Rattle.image.specs.Image.{pinsByte}
 
 -- ---- One byte and two
 
@@ -43,8 +43,8 @@ flag (suc zero) w h = omega arith
 flag (suc (suc m)) w h = omega arith
 
 -- read and written again
-pub lines-back : (b : ℕ) → b < 8 → cond (bitSet b READY) READY 0 + cond (bitSet b WAKE-UP) WAKE-UP 0 + cond (bitSet b STBY) STBY 0 ≡ b
-lines-back b h =
+pub pins-back : (b : ℕ) → b < 8 → cond (bitSet b READY) READY 0 + cond (bitSet b WAKE-UP) WAKE-UP 0 + cond (bitSet b STBY) STBY 0 ≡ b
+pins-back b h =
     (λ i. flag (b / 1 % 2) 1 (omega arith) i + flag (b / 2 % 2) 2 (omega arith) i + flag (b / 4 % 2) 4 (omega arith) i)
     ∙ omega arith
 
@@ -64,12 +64,12 @@ bits-back false true false = (refl, refl, refl)
 bits-back false false true = (refl, refl, refl)
 bits-back false false false = (refl, refl, refl)
 
-pub lines-small : (x y z : Bool) → cond x READY 0 + cond y WAKE-UP 0 + cond z STBY 0 < 8
-lines-small true true true = lit< tt
-lines-small true true false = lit< tt
-lines-small true false true = lit< tt
-lines-small true false false = lit< tt
-lines-small false true true = lit< tt
-lines-small false true false = lit< tt
-lines-small false false true = lit< tt
-lines-small false false false = lit< tt
+pub pins-small : (x y z : Bool) → cond x READY 0 + cond y WAKE-UP 0 + cond z STBY 0 < 8
+pins-small true true true = lit< tt
+pins-small true true false = lit< tt
+pins-small true false true = lit< tt
+pins-small true false false = lit< tt
+pins-small false true true = lit< tt
+pins-small false true false = lit< tt
+pins-small false false true = lit< tt
+pins-small false false false = lit< tt

@@ -16,13 +16,13 @@ use Rattle.display.specs.declared.Display.{Display}
 use Rattle.panel.specs.declared.Panel.{Panel}
 use Rattle.image.specs.Layout as at
 use Rattle.image.specs.Layout.{byteAt, wordAt, READY, WAKE-UP, STBY}
-use Rattle.image.specs.Image.{registersIn, rtcIn, powerIn, setupIn, keysIn, remoteIn, coreIn, displayIn, decoded, linesByte, fieldBytes, laidOut, encoded}
+use Rattle.image.specs.Image.{registersIn, rtcIn, powerIn, setupIn, keysIn, remoteIn, coreIn, displayIn, decoded, pinsByte, fieldBytes, laidOut, encoded}
 
 module _ (l : List ℕ) where
   pub keys-in : (m s a t : ℕ) → m ≡ wordAt l at.MASK → s ≡ wordAt l at.SAMPLE → a ≡ wordAt l at.ACCEPTED → t ≡ wordAt l at.STORE → keys m s a t ≡ keysIn l
   keys-in m s a t em es ea et = λ i. keys (em i) (es i) (ea i) (et i)
 
-  pub power-in : (r w s : Bool) (g : Sixteenths) → g .0 ≡ wordAt l at.GUARD → r ≡ bitSet (byteAt l at.LINES) READY → w ≡ bitSet (byteAt l at.LINES) WAKE-UP → s ≡ bitSet (byteAt l at.LINES) STBY → power r w s g ≡ powerIn l
+  pub power-in : (r w s : Bool) (g : Sixteenths) → g .0 ≡ wordAt l at.GUARD → r ≡ bitSet (byteAt l at.PINS) READY → w ≡ bitSet (byteAt l at.PINS) WAKE-UP → s ≡ bitSet (byteAt l at.PINS) STBY → power r w s g ≡ powerIn l
   power-in r w s g eg er ew es = λ i. power (er i) (ew i) (es i) (sixteenths (eg i))
 
   pub rtc-in : (rs : List ℕ) (w : Sixteenths) → rs ≡ registersIn l → w .0 ≡ wordAt l at.WATCHDOG → rtc rs (sixteenths (byteAt l at.SIXTEENTHS)) (byteAt l at.FLAGS) w ≡ rtcIn l
@@ -34,5 +34,5 @@ module _ (l : List ℕ) where
   pub panel-in : (p : Panel) → p .core ≡ coreIn l → p .display ≡ displayIn l → p ≡ decoded l
   panel-in p ec ed = λ i. record { core = ec i; display = ed i }
 
-pub image-of : (p : Panel) (lines : ℕ) (fields l : List ℕ) → lines ≡ linesByte (p .core .power) → fields ≡ fieldBytes p lines → l ≡ laidOut (p .core .rtc .registers) fields → l ≡ encoded p
-image-of p lines fields l en ef e = e ∙ ap (laidOut (p .core .rtc .registers)) (ef ∙ ap (fieldBytes p) en)
+pub image-of : (p : Panel) (pins : ℕ) (fields l : List ℕ) → pins ≡ pinsByte (p .core .power) → fields ≡ fieldBytes p pins → l ≡ laidOut (p .core .rtc .registers) fields → l ≡ encoded p
+image-of p pins fields l en ef e = e ∙ ap (laidOut (p .core .rtc .registers)) (ef ∙ ap (fieldBytes p) en)

@@ -28,7 +28,7 @@ rtcIn l = rtc (registersIn l) (sixteenths (byteAt l at.SIXTEENTHS)) (byteAt l at
 
 abbrev pub powerIn : List ℕ → Power
 powerIn l =
-    power (bitSet (byteAt l at.LINES) READY) (bitSet (byteAt l at.LINES) WAKE-UP) (bitSet (byteAt l at.LINES) STBY) (sixteenths (wordAt l at.GUARD))
+    power (bitSet (byteAt l at.PINS) READY) (bitSet (byteAt l at.PINS) WAKE-UP) (bitSet (byteAt l at.PINS) STBY) (sixteenths (wordAt l at.GUARD))
 
 -- the protocol in b6..b4, the guard value in b3..b0
 abbrev pub setupIn : List ℕ → Setup
@@ -66,17 +66,17 @@ decoded l = record { core = coreIn l; display = displayIn l }
 -- ---- The image of a state
 
 -- b0 READY, b1 WAKE_UP, b2 STBY
-abbrev pub linesByte : Power → ℕ
-linesByte p = cond (p .ready) READY 0 + cond (p .wakeup) WAKE-UP 0 + cond (p .stby) STBY 0
+abbrev pub pinsByte : Power → ℕ
+pinsByte p = cond (p .ready) READY 0 + cond (p .wakeup) WAKE-UP 0 + cond (p .stby) STBY 0
 
 -- the protocol in b6..b4, the guard value in b3..b0
 abbrev pub setupByte : Setup → ℕ
 setupByte s = 16 * (s .protocol % 8) + s .guardvalue .0 % 16
 
--- bytes 16 to 21, the lines' byte given
+-- bytes 16 to 21, the pins' byte given
 abbrev pub statusBytes : Core → ℕ → List ℕ
-statusBytes c lines =
-    low (c .rtc .sixteenths .0) ∷ c .rtc .flags ∷ c .interrupt ∷ lines ∷ c .setup .configuration ∷ setupByte (c .setup) ∷ []
+statusBytes c pins =
+    low (c .rtc .sixteenths .0) ∷ c .rtc .flags ∷ c .interrupt ∷ pins ∷ c .setup .configuration ∷ setupByte (c .setup) ∷ []
 
 -- bytes 22 to 33
 abbrev pub wordsOf : Core → List ℕ
@@ -96,9 +96,9 @@ remoteBytes r = r .fresh ∷ r .address ∷ r .command ∷ []
 abbrev pub displayBytes : Display → List ℕ
 displayBytes d = d .digits ∷ d .control ∷ spell 0 5 (d .bytes)
 
--- bytes 16 to 43, the lines' byte given
+-- bytes 16 to 43, the pins' byte given
 abbrev pub fieldBytes : Panel → ℕ → List ℕ
-fieldBytes p lines = statusBytes (p .core) lines ++ wordsOf (p .core) ++ remoteBytes (p .core .remote) ++ displayBytes (p .display)
+fieldBytes p pins = statusBytes (p .core) pins ++ wordsOf (p .core) ++ remoteBytes (p .core .remote) ++ displayBytes (p .display)
 
 -- 16 registers, 28 bytes of fields, and zeros to the end
 abbrev pub laidOut : List ℕ → List ℕ → List ℕ
@@ -106,4 +106,4 @@ laidOut registers fields = spell 0 16 registers ++ spell 0 28 fields ++ replicat
 
 -- THE IMAGE of a state
 abbrev pub encoded : Panel → List ℕ
-encoded p = laidOut (p .core .rtc .registers) (fieldBytes p (linesByte (p .core .power)))
+encoded p = laidOut (p .core .rtc .registers) (fieldBytes p (pinsByte (p .core .power)))

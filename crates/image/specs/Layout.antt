@@ -20,8 +20,8 @@ FLAGS = 17
 abbrev pub INTERRUPT : ℕ
 INTERRUPT = 18
 
-abbrev pub LINES : ℕ
-LINES = 19
+abbrev pub PINS : ℕ
+PINS = 19
 
 abbrev pub CONFIGURATION : ℕ
 CONFIGURATION = 20

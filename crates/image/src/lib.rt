@@ -3,7 +3,7 @@ ghost use mathlib.Core.Path.{_≡_};
 ghost use Prim.Native.Nat.{_+_, _*_, _<_};
 ghost use lib.ListN.{length};
 ghost use Rattle.image.specs.Layout.{SIZE, wordAt};
-ghost use Rattle.image.specs.Image.{registersIn, rtcIn, powerIn, setupIn, keysIn, remoteIn, coreIn, displayIn, decoded, linesByte, fieldBytes, laidOut, encoded};
+ghost use Rattle.image.specs.Image.{registersIn, rtcIn, powerIn, setupIn, keysIn, remoteIn, coreIn, displayIn, decoded, pinsByte, fieldBytes, laidOut, encoded};
 use controller::Core;
 use controller::Keys;
 use controller::Power;
@@ -15,18 +15,21 @@ use panel::Panel;
 use units::Seconds;
 use units::Sixteenths;
 
+// How many bytes an image has.
+pub const SIZE: usize = 64;
+
 // Where things stand in the image.
 const SIXTEENTHS: usize = 16;
 
-const FLAGS: usize = 17;
+pub const FLAGS: usize = 17;
 
 const INTERRUPT: usize = 18;
 
-const LINES: usize = 19;
+pub const PINS: usize = 19;
 
-const CONFIGURATION: usize = 20;
+pub const CONFIGURATION: usize = 20;
 
-const PROTOCOL: usize = 21;
+pub const PROTOCOL: usize = 21;
 
 const GUARD: usize = 22;
 
@@ -48,9 +51,9 @@ const COMMAND: usize = 36;
 
 const DIGITS: usize = 37;
 
-const CONTROL: usize = 38;
+pub const CONTROL: usize = 38;
 
-// Bits of the lines' byte.
+// Bits of the pins' byte.
 const READY: u8 = 1;
 
 const WAKE_UP: u8 = 2;
@@ -104,11 +107,11 @@ fn decode_power(image: [u8; 64]) -> Power
     ensures { λ r. ⌜ r ≡ powerIn image ⌝ }
 {
     let guard = decode_sixteenths(image, GUARD);
-    let lines = image[LINES];
+    let pins = image[PINS];
     Power {
-        ready: common::bit(lines, READY),
-        wakeup: common::bit(lines, WAKE_UP),
-        stby: common::bit(lines, STBY),
+        ready: common::bit(pins, READY),
+        wakeup: common::bit(pins, WAKE_UP),
+        stby: common::bit(pins, STBY),
         guard,
     }
 }
@@ -183,40 +186,36 @@ pub fn decode(image: [u8; 64]) -> Panel
 }
 
 // b0 READY, b1 WAKE_UP, b2 STBY.
-fn encode_lines(power: Power) -> u8
-    ensures { λ r. ⌜ r ≡ linesByte power ⌝ }
+fn encode_pins(power: Power) -> u8
+    ensures { λ r. ⌜ r ≡ pinsByte power ⌝ }
 {
     common::weight(power.ready, READY)
         + common::weight(power.wakeup, WAKE_UP)
         + common::weight(power.stby, STBY)
 }
 
-// The bytes between the registers and the zeros, the lines' byte given.
-fn encode_fields(p: Panel, lines: u8) -> [u8; 28]
-    ensures { λ r. ⌜ r ≡ fieldBytes p lines ⌝ }
+// The bytes between the registers and the zeros, the pins' byte given.
+fn encode_fields(p: Panel, pins: u8) -> [u8; 28]
+    ensures { λ r. ⌜ r ≡ fieldBytes p pins ⌝ }
 {
     let core = p.core;
     let rtc = core.rtc;
     let setup = core.setup;
     let keys = core.keys;
-    let remote = core.remote;
     let display = p.display;
     let digits = display.bytes;
-    let sixteenths = rtc.sixteenths.0;
-    let value = setup.guardvalue.0;
     let guard = core.power.guard.0;
-    let watchdog = rtc.watchdog.0;
     [
-        (sixteenths % 256) as u8,
+        (rtc.sixteenths.0 % 256) as u8,
         rtc.flags,
         core.interrupt,
-        lines,
+        pins,
         setup.configuration,
-        16 * (setup.protocol % 8) + (value % 16) as u8,
+        16 * (setup.protocol % 8) + (setup.guardvalue.0 % 16) as u8,
         (guard % 256) as u8,
         (guard / 256 % 256) as u8,
-        (watchdog % 256) as u8,
-        (watchdog / 256 % 256) as u8,
+        (rtc.watchdog.0 % 256) as u8,
+        (rtc.watchdog.0 / 256 % 256) as u8,
         (keys.mask % 256) as u8,
         (keys.mask / 256 % 256) as u8,
         (keys.sample % 256) as u8,
@@ -225,9 +224,9 @@ fn encode_fields(p: Panel, lines: u8) -> [u8; 28]
         (keys.accepted / 256 % 256) as u8,
         (keys.store % 256) as u8,
         (keys.store / 256 % 256) as u8,
-        remote.fresh,
-        remote.address,
-        remote.command,
+        core.remote.fresh,
+        core.remote.address,
+        core.remote.command,
         display.digits,
         display.control,
         digits[0],
@@ -256,7 +255,7 @@ pub fn encode(p: Panel) -> [u8; 64]
     let rtc = core.rtc;
     let power = core.power;
     let registers = rtc.registers;
-    lay_out(registers, encode_fields(p, encode_lines(power)))
+    lay_out(registers, encode_fields(p, encode_pins(power)))
 }
 
 // The image's bytes by value; the compiler copies 64 bytes faster than as many as there are.

@@ -32,15 +32,8 @@ pub struct Served {
 fn data_of(s: &[u8]) -> &[u8]
     ensures { λ r. ⌜ now r ≡ dataOf (now (s .entry)) ⌝ }
 {
-    let from = shorter(2, s.len());
+    let from = common::shorter(2, s.len());
     &s[from..]
-}
-
-// The smaller of two lengths.
-fn shorter(x: usize, y: usize) -> usize
-    ensures { λ r. ⌜ r ≡ min x y ⌝ }
-{
-    if x <= y { x } else { y }
 }
 
 // The digit byte at address x after data from address a on.
@@ -61,7 +54,7 @@ fn digit_after(a: usize, bytes: &[u8], x: usize, old: u8) -> u8
 fn reply_registers(registers: [u8; 16], a: usize, out: &mut [u8])
     ensures { λ _. ⌜ now (out .exit) ≡ answered (drop a registers) (length (now (out .entry))) ⌝ }
 {
-    let from = shorter(a, 16);
+    let from = common::shorter(a, 16);
     output::answer(out, &registers[from..]);
 }
 

@@ -106,19 +106,12 @@ pub fn reserved_clear(registers: [u8; 16]) -> bool
         & (registers[ALARM_WEEKDAY] % 16 == 0)
 }
 
-// The smaller of two lengths.
-fn shorter(x: usize, y: usize) -> usize
-    ensures { λ r. ⌜ r ≡ min x y ⌝ }
-{
-    if x <= y { x } else { y }
-}
-
 // Stores bytes over dst, whose first byte is register a.
 fn store(dst: &mut [u8], a: usize, bytes: &[u8])
     requires { ⌜ a + length (now dst) ≤ 16 ⌝ }
     ensures { λ _. ⌜ now (dst .exit) ≡ stored a (now (dst .entry)) (now (bytes .entry)) ⌝ }
 {
-    let n = shorter(dst.len(), bytes.len());
+    let n = common::shorter(dst.len(), bytes.len());
     let mut j = 0;
     while j < n {
         dst[j] = kept_bits(a + j, bytes[j]);

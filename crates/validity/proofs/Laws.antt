@@ -18,7 +18,7 @@ use Rattle.image.specs.Layout as at
 use Rattle.image.specs.Layout.{SIZE, TAIL, byteAt, wordAt}
 use Rattle.image.specs.Image.{rtcIn, powerIn, setupIn, keysIn, remoteIn, coreIn, displayIn, decoded, setupByte, encoded}
 use Rattle.image.specs.Sound.{SoundDisplay, SoundPanel}
-use Rattle.image.proofs.Numbers.{lines-small}
+use Rattle.image.proofs.Numbers.{pins-small}
 use Rattle.image.proofs.Bytes.{spelt-byte}
 use Rattle.image.proofs.Laws.{Whole, encode-decode-whole, decode-encode}
 use Rattle.validity.specs.Valid.{unnamedTests, tailTests, rangeTests, stateTests, validTests, isValid}
@@ -116,7 +116,7 @@ module _ (l : List ℕ) (h : isValid l ≡ true) where
     pub encode-decode : encoded (decoded l) ≡ l
     encode-decode =
         encode-decode-whole l
-        record { sized = valid-length; bytes = small; lines = ltb-true _ _ (unnamed 1); setup = ltb-true _ _ (unnamed 4); zeros = tail }
+        record { sized = valid-length; bytes = small; pins = ltb-true _ _ (unnamed 1); setup = ltb-true _ _ (unnamed 4); zeros = tail }
 
 -- ---- The image of a sound state is valid
 
@@ -127,7 +127,7 @@ module _ (p : Panel) (s : SoundPanel p) where
       let t = s .core in
       all-hold (unnamedTests (encoded p))
       (lt-ltb _ _ (t .rtc .flags)
-      also lt-ltb _ _ (lines-small (c .power .ready) (c .power .wakeup) (c .power .stby))
+      also lt-ltb _ _ (pins-small (c .power .ready) (c .power .wakeup) (c .power .stby))
       also lt-ltb _ _ (t .setup .configuration)
       also eq-eqb _ _ (t .setup .unnamed)
       also lt-ltb (setupByte (c .setup)) 128 (omega arith)

@@ -14,16 +14,16 @@ use Rattle.controller.specs.declared.Core.{Core}
 use Rattle.controller.specs.Standby.{guardLoad}
 use Rattle.controller.specs.Sound.{knownProtocol}
 use Rattle.panel.specs.declared.Panel.{Panel}
-use Rattle.image.specs.Layout.{SIZE, FLAGS, LINES, CONFIGURATION, PROTOCOL, CONTROL, TAIL, byteAt}
+use Rattle.image.specs.Layout.{SIZE, FLAGS, PINS, CONFIGURATION, PROTOCOL, CONTROL, TAIL, byteAt}
 use Rattle.image.specs.Image.{registersIn, decoded}
 
 -- ---- Bits and bytes without a name
 
--- flags b7..b2, lines b7..b3, configuration b7, b6 and b4, protocol b7, display control b7..b5
+-- flags b7..b2, pins b7..b3, configuration b7, b6 and b4, protocol b7, display control b7..b5
 abbrev pub unnamedTests : List ℕ → List Bool
 unnamedTests l =
     ltb (byteAt l FLAGS) 4
-    ∷ ltb (byteAt l LINES) 8
+    ∷ ltb (byteAt l PINS) 8
     ∷ ltb (byteAt l CONFIGURATION) 64
     ∷ eqb (byteAt l CONFIGURATION / 16 % 2) 0
     ∷ ltb (byteAt l PROTOCOL) 128

@@ -3,22 +3,14 @@ ghost use mathlib.Core.Path.{_≡_};
 ghost use Rattle.common.specs.Tests.{conj};
 ghost use Rattle.validity.specs.Valid.{unnamedTests, tailTests, rangeTests, guardWithin, watchdogWithin, stateTests, isValid};
 use controller::Core;
+use image::CONFIGURATION;
+use image::CONTROL;
+use image::FLAGS;
+use image::PINS;
+use image::PROTOCOL;
+use image::SIZE;
 use panel::Panel;
-
-const SIZE: usize = 64;
-
-const FLAGS: usize = 17;
-
-const LINES: usize = 19;
-
-const CONFIGURATION: usize = 20;
-
-const PROTOCOL: usize = 21;
-
-const CONTROL: usize = 38;
-
-// Register 09h.
-const WATCHDOG: usize = 0x09;
+use registers::WATCHDOG;
 
 // Whether the bytes from 44 on, which have no use, are 0.
 fn tail_clear(image: [u8; 64]) -> bool
@@ -51,7 +43,7 @@ fn unnamed_clear(image: [u8; 64]) -> bool
     ensures { λ r. ⌜ r ≡ conj (unnamedTests image) ⌝ }
 {
     (image[FLAGS] < 4)
-        & (image[LINES] < 8)
+        & (image[PINS] < 8)
         & (image[CONFIGURATION] < 64)
         & (image[CONFIGURATION] / 16 % 2 == 0)
         & (image[PROTOCOL] < 128)

@@ -7,8 +7,8 @@ use Rattle.image.proofs.decode_power.Tie as tie
 decode-sixteenths-requires : tie.Need-decode-sixteenths-requires
 decode-sixteenths-requires c κs = search needs
 
-array-read-lines : tie.Need-array-read-lines
-array-read-lines c = search needs
+array-read-pins : tie.Need-array-read-pins
+array-read-pins c = search needs
 
 bit-requires : tie.Need-bit-requires
 bit-requires c κs = search needs
@@ -27,7 +27,7 @@ decode-power-spec =
     tie.close
     (tie.spec
     decode-sixteenths-requires
-    array-read-lines
+    array-read-pins
     bit-requires
     bit-requires-2
     bit-requires-3

@@ -4,8 +4,8 @@ use Rattle.image.proofs.Parts.{image-of}
 use Rattle.image.proofs.encode.Statement.{statement}
 use Rattle.image.proofs.encode.Tie as tie
 
-encode-lines-requires : tie.Need-encode-lines-requires
-encode-lines-requires c κs = search needs
+encode-pins-requires : tie.Need-encode-pins-requires
+encode-pins-requires c κs = search needs
 
 encode-fields-requires : tie.Need-encode-fields-requires
 encode-fields-requires c κs = search needs
@@ -18,4 +18,4 @@ returns c = search (needs, image-of)
 
 pub encode-spec : {M : Type 1} → statement M
 encode-spec =
-    tie.close (tie.spec encode-lines-requires encode-fields-requires lay-out-requires returns)
+    tie.close (tie.spec encode-pins-requires encode-fields-requires lay-out-requires returns)
