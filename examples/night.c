@@ -1,11 +1,11 @@
 /*
  * night.c - a night in the reading room.
  *
- * One panel from closing time to the next morning, drawn in the terminal as a
- * person before it would see it: sleep at closing, a clock that runs on, two
- * keys in the night, a mains cut that swallows the hour of the alarm, and a
- * panel that tells its alarm all the same. Everything seen comes from the
- * library's calls; the program only plays the keys, the host and the mains.
+ * One panel over two nights, drawn in the terminal as a person before it would
+ * see it: sleep at closing, a clock that runs on, two keys in the night, a mains
+ * cut that swallows the hour of the alarm, a panel that tells its alarm all the
+ * same, and a morning on which the alarm wakes it. Everything seen comes from
+ * the library's calls; the program only plays the keys, the host and the mains.
  *
  * Build: cc -std=c99 -I include examples/night.c libstled325.a -o night
  */
@@ -20,11 +20,10 @@
 #include "stled325.h"
 
 /* Seconds of the story, counted from Monday 16 November 2026, 00:00:00. */
+enum { MONDAY, TUESDAY, WEDNESDAY };
 #define DAY 86400UL
-#define MONDAY 0UL
-#define TUESDAY DAY
 #define AT(day, hour, minute, second) \
-    ((day) + 3600UL * (hour) + 60UL * (minute) + (second))
+    (DAY * (day) + 3600UL * (hour) + 60UL * (minute) + (second))
 
 /* Two keys of the front: KEY1 on KS1, the only hot one, and KEY2 on KS3. */
 #define POWER_KEY 0x0001u
@@ -32,7 +31,7 @@
 
 static uint8_t image[STLED325_IMAGE_LEN];
 static unsigned long now;        /* the story's time                     */
-static int colours;              /* stdout is a terminal                 */
+static int colours;              /* on a terminal that shows them        */
 static double pause_seconds;     /* after each picture; 0 for a plain run */
 
 /* ---- checking ---------------------------------------------------- */
@@ -48,15 +47,19 @@ static void must(uint32_t number, const char *call)
 
 /* ---- drawing ----------------------------------------------------- */
 
-static const char *colour(const char *code)
-{
-    return colours ? code : "";
-}
+#define LIT   (colours ? "\033[1;31m" : "")
+#define AMBER (colours ? "\033[1;33m" : "")
+#define BOLD  (colours ? "\033[1m" : "")
+#define PLAIN (colours ? "\033[0m" : "")
 
-#define LIT   colour("\033[1;31m")
-#define AMBER colour("\033[1;33m")
-#define BOLD  colour("\033[1m")
-#define PLAIN colour("\033[0m")
+/* A terminal that knows colours, and nobody who asks for none. */
+static int shows_colours(void)
+{
+    const char *none = getenv("NO_COLOR"), *term = getenv("TERM");
+
+    return isatty(STDOUT_FILENO) && (none == NULL || *none == '\0')
+        && term != NULL && strcmp(term, "dumb") != 0;
+}
 
 /* One of the three text rows of a digit: three columns, then the point's. */
 static void draw_row(uint8_t segments, int row)
@@ -116,24 +119,20 @@ static void draw(int powered)
     pause_if_watched();
 }
 
-static void caption(const char *words)
-{
-    unsigned long time = now % DAY;
-
-    printf("%s%s %02lu:%02lu:%02lu%s  %s\n", BOLD, now < TUESDAY ? "Mon" : "Tue",
-           time / 3600, time / 60 % 60, time % 60, PLAIN, words);
-}
-
 /* ---- what happens to the panel ------------------------------------- */
 
-/* Ticks until the story reaches this time. */
-static void wait_until(unsigned long then)
+/* Ticks until the story reaches this time, then a caption for what comes. */
+static void scene(unsigned long then, const char *words)
 {
+    static const char *const days[3] = { "Mon", "Tue", "Wed" };
+    const unsigned long time = then % DAY;
     unsigned long ticks;
 
     for (ticks = (then - now) * STLED325_TICKS_PER_SECOND; ticks > 0; ticks--)
         must(stled325_tick(image, sizeof image), "tick");
     now = then;
+    printf("%s%s %02lu:%02lu:%02lu%s  %s\n", BOLD, days[now / DAY],
+           time / 3600, time / 60 % 60, time % 60, PLAIN, words);
 }
 
 /* The host sends a command, and the bytes of both ways are told. */
@@ -154,18 +153,23 @@ static void host(const char *why, const uint8_t *bytes, size_t bytes_len,
     printf("%*s  %s\n", column < 33 ? 33 - column : 0, "", why);
 }
 
-static void host_says(const char *why, const uint8_t *bytes, size_t bytes_len)
+#define ASK(why, out, out_len, ...) \
+    host(why, (const uint8_t[]){ __VA_ARGS__ }, sizeof (uint8_t[]){ __VA_ARGS__ }, \
+         out, out_len)
+#define SAY(why, ...) ASK(why, (uint8_t[1]){ 0 }, 0, __VA_ARGS__)
+
+/* The host reads interrupt byte and flags, which must tell of the alarm. */
+static void read_alarm(const char *why, uint8_t source)
 {
-    uint8_t nothing[1] = { 0 };
+    uint8_t reply[2];
 
-    host(why, bytes, bytes_len, nothing, 0);
+    ASK(why, reply, sizeof reply, STLED325_CMD_READ_INTERRUPT);
+    if (reply[0] != source || reply[1] != STLED325_FLAG_ALARM) {
+        fflush(stdout);
+        fprintf(stderr, "night: the alarm was lost\n");
+        exit(EXIT_FAILURE);
+    }
 }
-
-#define SAY(why, ...) \
-    do { \
-        const uint8_t said[] = { __VA_ARGS__ }; \
-        host_says(why, said, sizeof said); \
-    } while (0)
 
 /* A key goes down and up again; the scan sees each state twice. */
 static void press(uint16_t key)
@@ -187,30 +191,27 @@ static void evening(void)
 {
     now = AT(MONDAY, 17, 30, 0);
     must(stled325_power_up(image, sizeof image), "power-up");
-    caption("The terminal is plugged in. The panel powers up dark, the sound muted.");
+    scene(now, "Plugged in. The panel powers up dark, the sound muted.");
     draw(1);
 
-    wait_until(AT(MONDAY, 17, 30, 2));
-    caption("The host has booted and greets the room.");
+    scene(AT(MONDAY, 17, 30, 2), "The host has booted and greets the room.");
     SAY("five digits", STLED325_CMD_WRITE_DIGITS, STLED325_DIGIT_1, 0x76, 0x79, 0x38, 0x38, 0x3F);
     SAY("display on, brightest", STLED325_CMD_DISPLAY | STLED325_DISPLAY_ON | 15);
     draw(1);
 
-    wait_until(AT(MONDAY, 17, 30, 5));
-    caption("It sets the clock, the alarm and the hot key, then raises READY.");
+    scene(AT(MONDAY, 17, 30, 5), "It sets clock, alarm and hot key, then raises READY.");
     SAY("clock: Mon 16 Nov 2026, 17:30:05", STLED325_CMD_WRITE_REGISTERS, STLED325_REG_SECONDS,
         0x05, 0x30, 0x17, 0x02, 0x16, 0x11, 0x26);
     SAY("alarm: daily 07:30:00, AFE and ABE", STLED325_CMD_WRITE_REGISTERS, STLED325_REG_AL_MONTH,
-        STLED325_AFE | STLED325_ABE, STLED325_RPT4 | STLED325_RPT5, STLED325_RPT6 | 0x07, 0x30, 0x00);
+        STLED325_AFE | STLED325_ABE, STLED325_RPT4 | STLED325_RPT5, STLED325_RPT6 | 0x07,
+        0x30, 0x00);
     SAY("KEY1 on KS1 is hot", STLED325_CMD_HOT_KEYS, POWER_KEY, 0x00);
-    SAY("clock face, NEC remote, guard 10 s",
-        STLED325_CMD_CONFIGURE | STLED325_CFG_RTC_FACE | STLED325_CFG_GUARD_STBY,
-        STLED325_PROTOCOL_NEC | 10);
+    SAY("clock face, NEC remote, guard 10 s", STLED325_CMD_CONFIGURE | STLED325_CFG_RTC_FACE
+        | STLED325_CFG_GUARD_STBY, STLED325_PROTOCOL_NEC | 10);
     ready(1);
     draw(1);
 
-    wait_until(AT(MONDAY, 18, 0, 0));
-    caption("Closing time. The host asks for standby, and READY falls as its supply goes.");
+    scene(AT(MONDAY, 18, 0, 0), "Closing time. The host asks for standby, and its READY falls.");
     SAY("standby", STLED325_CMD_STANDBY);
     ready(0);
     draw(1);
@@ -219,84 +220,82 @@ static void evening(void)
 static void night(void)
 {
     uint8_t reply[2];
-    const uint8_t read_keys[] = { STLED325_CMD_READ_KEYS };
-    const uint8_t read_interrupt[] = { STLED325_CMD_READ_INTERRUPT };
 
-    wait_until(AT(MONDAY, 18, 0, 59));
-    caption("In the dark room the clock goes on ...");
+    scene(AT(MONDAY, 18, 0, 59), "In the dark room the clock goes on ...");
     draw(1);
-    wait_until(AT(MONDAY, 18, 1, 0));
-    caption("... minute by minute.");
+    scene(AT(MONDAY, 18, 1, 0), "... minute by minute.");
     draw(1);
 
-    wait_until(AT(MONDAY, 21, 15, 0));
-    caption("A duster brushes the menu key. It is cold: nothing happens.");
+    scene(AT(MONDAY, 21, 15, 0), "A duster brushes the menu key. It is cold: nothing happens.");
     press(MENU_KEY);
     draw(1);
 
-    wait_until(AT(MONDAY, 22, 40, 0));
-    caption("The porter presses the power key, KEY1 on KS1. It is hot: the panel wakes the board.");
+    scene(AT(MONDAY, 22, 40, 0), "The porter presses the power key. It is hot: the panel wakes.");
     press(POWER_KEY);
     draw(1);
 
-    wait_until(AT(MONDAY, 22, 40, 4));
-    caption("The host has booted, READY rises, and IRQ calls it.");
+    scene(AT(MONDAY, 22, 40, 4), "The host has booted, READY rises, and IRQ calls it.");
     ready(1);
     draw(1);
 
-    caption("It reads what has happened, and IRQ falls.");
-    host("keys: KEY1 on KS1 only", read_keys, sizeof read_keys, reply, sizeof reply);
-    host("interrupt: a key, in standby", read_interrupt, sizeof read_interrupt, reply, sizeof reply);
+    scene(now, "It reads what has happened, and IRQ falls.");
+    ASK("keys: KEY1 on KS1 only", reply, sizeof reply, STLED325_CMD_READ_KEYS);
+    ASK("interrupt: a key, in standby", reply, sizeof reply, STLED325_CMD_READ_INTERRUPT);
     draw(1);
-
 }
 
 static void small_hours(void)
 {
-    wait_until(AT(MONDAY, 22, 45, 0));
-    caption("The porter is done. The host lets READY fall, and the panel sleeps again.");
+    scene(AT(MONDAY, 22, 45, 0), "The porter is done. READY falls, and the panel sleeps again.");
     ready(0);
     draw(1);
 
-    wait_until(AT(TUESDAY, 5, 0, 0));
-    caption("Five in the morning, all is well ...");
+    scene(AT(TUESDAY, 5, 0, 0), "Five in the morning, all is well ...");
     draw(1);
-    caption("... and the mains fail. Nothing is lit, and no tick comes.");
+    scene(now, "... and the mains fail. Nothing is lit, and no tick comes.");
     draw(0);
 }
 
 static void morning(void)
 {
-    uint8_t reply[2], clock[7];
-    const uint8_t read_interrupt[] = { STLED325_CMD_READ_INTERRUPT };
-    const uint8_t read_clock[] = { STLED325_CMD_READ_REGISTERS, STLED325_REG_SECONDS };
     const unsigned long cut = AT(TUESDAY, 9, 0, 0) - now;
+    uint8_t clock[7];
 
     must(stled325_supply_return(image, sizeof image, (uint32_t)cut), "supply return");
     now += cut;
-    caption("The supply returns. The alarm within the cut is noted; the panel is awake, its display still off.");
+    scene(now, "The supply returns. The panel is awake, its display still off.");
     printf("    the cut took %lu s, and 07:30:00 fell within it\n", cut);
     draw(1);
 
-    wait_until(AT(TUESDAY, 9, 0, 3));
-    caption("The host has booted, READY rises, and IRQ calls it.");
+    scene(AT(TUESDAY, 9, 0, 3), "The host has booted, READY rises, and IRQ calls it.");
     ready(1);
     draw(1);
 
-    caption("It reads what has happened, and the time, and lights the face.");
-    host("interrupt: RTC; flag: alarm", read_interrupt, sizeof read_interrupt, reply, sizeof reply);
-    if (reply[0] != STLED325_INT_RTC || reply[1] != STLED325_FLAG_ALARM) {
-        fflush(stdout);
-        fprintf(stderr, "night: the alarm within the cut was lost\n");
-        exit(EXIT_FAILURE);
-    }
-    host("clock: Tue 17 Nov 2026, 09:00:03", read_clock, sizeof read_clock, clock, sizeof clock);
+    scene(now, "It reads what has happened, and the time, and lights the face.");
+    read_alarm("interrupt: RTC; flag: alarm", STLED325_INT_RTC);
+    ASK("clock: Tue 17 Nov 2026, 09:00:03", clock, sizeof clock,
+        STLED325_CMD_READ_REGISTERS, STLED325_REG_SECONDS);
     SAY("clock face, NEC remote, no guard", STLED325_CMD_CONFIGURE | STLED325_CFG_RTC_FACE,
         STLED325_PROTOCOL_NEC);
     SAY("display on, brightest", STLED325_CMD_DISPLAY | STLED325_DISPLAY_ON | 15);
     draw(1);
+}
 
-    caption("The doors are open, the terminal is lit, and no alarm was lost.");
+static void second_night(void)
+{
+    scene(AT(TUESDAY, 18, 0, 0), "Closing time again. READY falls, and the panel sleeps ...");
+    ready(0);
+    draw(1);
+
+    scene(AT(WEDNESDAY, 7, 30, 0), "... until its alarm wakes it, with no key and no cut.");
+    draw(1);
+
+    scene(AT(WEDNESDAY, 7, 30, 4), "The host has booted, READY rises, and it reads what woke it.");
+    ready(1);
+    read_alarm("interrupt: RTC, in standby; alarm", STLED325_INT_STBY_RTC);
+    draw(1);
+
+    scene(now, "Before the doors open the terminal is lit, and no alarm was lost.");
 }
 
 /* ---- options ------------------------------------------------------- */
@@ -310,7 +309,16 @@ static const char help[] =
     "  --speed N  N pictures a minute, 1 to 600\n"
     "  --help     this text\n"
     "\n"
-    "Without options the whole night runs at once.\n";
+    "Without options all runs at once. NO_COLOR or TERM=dumb: no colours.\n";
+
+static const char legend[] =
+    "STBY   lamp: the main board is off       READY  host's line, high while it runs\n"
+    "MUTE   lamp: the sound is off            RTC    the clock in the panel\n"
+    "IRQ    lamp: the panel calls the host    AFE    its alarm counts ...\n"
+    "host   the program of the main board     ABE    ... over a mains cut too\n"
+    "guard  seconds in which READY must rise, or the panel sleeps again\n"
+    "key    a hot one wakes the panel, a cold one does not    (*)    a lamp is lit\n"
+    "\n";
 
 static int wrong(const char *what, const char *word)
 {
@@ -340,13 +348,13 @@ int main(int argc, char **argv)
             return wrong("unknown option", argv[i]);
         }
     }
-    colours = isatty(STDOUT_FILENO);
-
-    puts("Lamps, (*) lit: STBY the main board is off, MUTE the sound is off, IRQ the panel calls the host.\n");
+    colours = shows_colours();
+    fputs(legend, stdout);
     evening();
     night();
     small_hours();
     morning();
+    second_night();
     if (fflush(stdout) != 0 || ferror(stdout)) {
         perror("night: the output could not be written");
         return EXIT_FAILURE;

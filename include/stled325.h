@@ -14,15 +14,26 @@
  *     stled325_ready(image, sizeof image, level);   at each change of READY
  *     stled325_key_sample(image, sizeof image, k);  at each scan of the keys
  *
- * Power-up starts a guard of 10 seconds: standby begins at its end unless READY
- * has risen or a command has set the guard anew.
+ * THE GUARD. Power-up, supply return and whatever else ends standby load it
+ * with its value in seconds, 10 for the first two; so does the configuration
+ * command. Loaded with 0 it is stopped. With configuration b0, which power-up
+ * and supply return set, standby begins at the guard's end unless READY rises
+ * before; a READY that is high already stops nothing.
  *
  * EVERY CALL returns 0 if it was accepted, or else the number of the first
- * ground of refusal that holds (enum stled325_refusal, checked in the order of
- * the numbers). A refused call has written nothing: no byte of the image, no
- * byte of an output. Every call but power-up is refused by 1, before all else,
- * if the image is not 64 bytes long or holds what no panel can hold; below this
- * is written short as "Refused: 1".
+ * ground of refusal that holds, in the order of the numbers: a uint32_t, to be
+ * compared with the enumerators of stled325_refusal (C++ does not convert it to
+ * the enum). A refused call has written nothing: no byte of the image, no byte
+ * of an output. Every call but power-up is refused by 1, before all else, if
+ * the image is not 64 bytes long or not valid; below this is written short as
+ * "Refused: 1".
+ *
+ * AN IMAGE IS VALID exactly if: the calendar is (fields BCD and in range, the
+ * weekday 1 to 7, a date that its month has); reserved and unnamed bits and
+ * bytes 44..63 are 0; sixteenths, fresh mark and digits are in the ranges given
+ * below; the protocol is 0, 2 or 4; guard and watchdog have no more left than
+ * their value and 09h load, the guard nothing in standby; the remote address is
+ * 0, and its command too unless fresh. docs/PANEL.md has all rules by subject.
  *
  * WHAT THE CALLER OWES. The library checks every value it is given, but it
  * cannot check these; if they do not hold, nothing is promised:
@@ -32,7 +43,9 @@
  *   - no two calls use the same image at the same time: an interrupt routine
  *     that makes a call must not break into another call on that image;
  *   - nobody else writes into the image. Saving it, reading it and putting a
- *     saved copy back is fine; an image damaged on the way is refused by 1.
+ *     saved copy back is fine. Damage on the way is refused by 1 only if the
+ *     image is then not valid; other damage is not noticed. A program that
+ *     keeps the image over a reset should store a checksum of its own with it.
  * A pointer needs no alignment.
  *
  * Numbers of two bytes lie in the image low byte first.
@@ -47,9 +60,7 @@
 extern "C" {
 #endif
 
-/* ------------------------------------------------------------------ */
-/* Return numbers                                                      */
-/* ------------------------------------------------------------------ */
+/* ---- Return numbers ---------------------------------------------------- */
 
 enum stled325_refusal {
     STLED325_ACCEPTED          = 0,
@@ -67,9 +78,7 @@ enum stled325_refusal {
     STLED325_BAD_BUFFER        = 12  /* show or lines buffer of a wrong length */
 };
 
-/* ------------------------------------------------------------------ */
-/* Sizes and limits                                                    */
-/* ------------------------------------------------------------------ */
+/* ---- Sizes and limits -------------------------------------------------- */
 
 #define STLED325_IMAGE_LEN   64         /* bytes of an image                 */
 #define STLED325_DIGITS_LEN  5          /* bytes that show writes            */
@@ -77,9 +86,7 @@ enum stled325_refusal {
 #define STLED325_TICKS_PER_SECOND 16    /* a tick is a sixteenth of a second */
 #define STLED325_LONGEST_CUT 31622400UL /* seconds, 366 days                 */
 
-/* ------------------------------------------------------------------ */
-/* The image: where things stand in it (to look at, not to write)      */
-/* ------------------------------------------------------------------ */
+/* ---- The image: where things stand in it (to look at, not to write) ---- */
 
 #define STLED325_AT_REGISTERS       0  /* 16 bytes, clock registers 00h..0Fh   */
 #define STLED325_AT_SIXTEENTHS      16 /* 0..15, of the running second         */
@@ -94,7 +101,7 @@ enum stled325_refusal {
 #define STLED325_AT_LAST_SAMPLE     28 /* 2 bytes                              */
 #define STLED325_AT_ACCEPTED_KEYS   30 /* 2 bytes                              */
 #define STLED325_AT_KEY_STORE       32 /* 2 bytes, presses not read yet        */
-#define STLED325_AT_REMOTE_FRESH    34 /* 1 if a remote key is unread          */
+#define STLED325_AT_REMOTE_FRESH    34 /* 1 if a remote key is unread, else 0  */
 #define STLED325_AT_REMOTE_ADDRESS  35 /* always 0                             */
 #define STLED325_AT_REMOTE_COMMAND  36 /* command of the unread remote key     */
 #define STLED325_AT_DIGITS          37 /* digits in use, 1..5                  */
@@ -127,9 +134,7 @@ enum stled325_refusal {
 #define STLED325_LINE_MUTE 0x02u /* MUTE is high: READY is low             */
 #define STLED325_LINE_IRQ  0x04u /* IRQ is asserted                        */
 
-/* ------------------------------------------------------------------ */
-/* Clock registers, BCD                                                */
-/* ------------------------------------------------------------------ */
+/* ---- Clock registers, BCD ---------------------------------------------- */
 
 #define STLED325_REG_RESERVED      0x00u
 #define STLED325_REG_SECONDS       0x01u /* OSC_ST, seconds 00-59               */
@@ -149,14 +154,17 @@ enum stled325_refusal {
 #define STLED325_REG_AL_SEC        0x0Eu /* RPT1, alarm second                  */
 #define STLED325_REG_AL_DAY        0x0Fu /* WDFEn, alarm day of week in b6..b4  */
 
-/* An alarm every day at 07:30:00, also over a supply cut: write
+/* Century 0 is 20xx. In every century a year whose two digits divide by 4 is a
+   leap year, so the calendar is the world's until 28 February 2100.
+
+   An alarm every day at 07:30:00, also over a supply cut: write
        AFE | ABE,  RPT4 | RPT5,  RPT6 | 07h,  30h,  00h
    from 0Ah on. Alarm fields are BCD and are not checked: one that is no possible
    time is stored and never matches. */
 #define STLED325_OSC_ST   0x80u /* 01h: the oscillator is stopped             */
 #define STLED325_MD_H     0x80u /* 03h: the face shows month and date         */
 #define STLED325_M_MS     0x40u /* 03h: the face shows minutes and seconds    */
-#define STLED325_CB       0xC0u /* 06h: century 0-3                           */
+#define STLED325_CB       0xC0u /* 06h: century 0-3, in b7 and b6             */
 #define STLED325_12_24    0x80u /* 08h: the face shows hours 1 to 12          */
 #define STLED325_CAL_SIGN 0x20u /* 08h: sign of the calibration, stored only  */
 #define STLED325_RB2      0x80u /* 09h: watchdog resolution, with RB1 and RB0 */
@@ -173,9 +181,7 @@ enum stled325_refusal {
 #define STLED325_RPT1     0x80u /* 0Eh: the second is not compared            */
 #define STLED325_WDFEN    0x80u /* 0Fh: the watchdog's end raises its flag    */
 
-/* ------------------------------------------------------------------ */
-/* Commands                                                            */
-/* ------------------------------------------------------------------ */
+/* ---- Commands ---------------------------------------------------------- */
 
 #define STLED325_CMD_CONFIGURE       0x00u /* | STLED325_CFG_..., then set-up  */
 #define STLED325_CMD_WRITE_DIGITS    0x40u /* address 10h..14h, data           */
@@ -207,15 +213,14 @@ enum stled325_refusal {
 #define STLED325_POINT      0x80u /* segment bit of the point                */
 #define STLED325_FILL       0xFFu /* output bytes beyond a reply             */
 
-/* ------------------------------------------------------------------ */
-/* The calls                                                           */
-/* ------------------------------------------------------------------ */
+/* ---- The calls --------------------------------------------------------- */
 
 /*
  * First power. Overwrites the image, whatever it held, with the panel's start:
  * clock at 1 January of century 0, year 00, 00:00:00, weekday 7, running;
- * STBY, READY and WAKE_UP low; display off, five digits; no protocol; guard of
- * 10 seconds running, with the guard's end beginning standby.
+ * STBY, READY and WAKE_UP low; five digits; guard of 10 seconds running, with
+ * the guard's end beginning standby. All else is 0: 24-hour form, no alarm,
+ * watchdog off, display off, no remote protocol, no hot key, nothing unread.
  *
  * Refused: 1 if image_len is not 64.
  */
@@ -265,7 +270,8 @@ uint32_t stled325_tick(uint8_t *image, size_t image_len);
  *   C1h                  Standby begins. What ends it: an accepted hot key, a
  *                        remote key with configuration b2, WAKE_UP rising with
  *                        b5, an alarm or a watchdog event, power-up, supply
- *                        return; no command does, nor does READY.
+ *                        return; no command does, nor does READY. Whatever
+ *                        ends it loads the guard.
  *   C2h                  Reloads the guard if it is running.
  *
  * Refused: 1; 2 if bytes_len is 0; 3 in standby; 4 for any other first byte;
@@ -339,8 +345,10 @@ uint32_t stled325_supply_return(uint8_t *image, size_t image_len, uint32_t secon
  * Writes the segments of digits 1 to 5, b0 segment a to b6 segment g, b7 the
  * point. All 0 while the display is off, and in standby without configuration
  * b3. With b3 and at least four digits the clock: month and date with MD_H,
- * else minutes and seconds with M_MS, else hours and minutes. Otherwise the
- * digit bytes, those not in use 0. The image is not changed.
+ * else minutes and seconds with M_MS, else hours and minutes, on digits 1 to 4
+ * with the point on digit 2, digit 5 blank. A leading zero is blank only in
+ * hours of the 12-hour form, 1 to 12 with nothing for the afternoon. Otherwise
+ * the digit bytes, those not in use 0. The image is not changed.
  *
  * Refused: 1; 12 if digits_len is not 5.
  */
