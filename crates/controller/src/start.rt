@@ -10,20 +10,27 @@ use crate::Setup;
 use units::Seconds;
 use units::Sixteenths;
 
+// The clock at power-up.
+fn start_clock() -> Rtc
+    ensures { λ r. ⌜ r ≡ poweredUp .rtc ⌝ }
+{
+    let none = Sixteenths(0);
+    Rtc {
+        registers: [0, 0, 0, 0, 7, 1, 1, 0, 0, 0, 0, 0, 0, 0, 0, 0],
+        sixteenths: none,
+        flags: 0,
+        watchdog: none,
+    }
+}
+
 impl Core {
     // The state at power-up.
     pub fn power_up() -> Core
         ensures { λ r. ⌜ r ≡ poweredUp ⌝ }
     {
-        let none = Sixteenths(0);
+        let rtc = start_clock();
         let value = Seconds(10);
         let load = units::in_sixteenths(value);
-        let rtc = Rtc {
-            registers: [0, 0, 0, 0, 7, 1, 1, 0, 0, 0, 0, 0, 0, 0, 0, 0],
-            sixteenths: none,
-            flags: 0,
-            watchdog: none,
-        };
         let power = Power {
             ready: false,
             wakeup: false,
