@@ -204,7 +204,6 @@ fn encode_fields(p: Panel, pins: u8) -> [u8; 28]
     let keys = core.keys;
     let display = p.display;
     let digits = display.bytes;
-    let guard = core.power.guard.0;
     [
         (rtc.sixteenths.0 % 256) as u8,
         rtc.flags,
@@ -212,8 +211,8 @@ fn encode_fields(p: Panel, pins: u8) -> [u8; 28]
         pins,
         setup.configuration,
         16 * (setup.protocol % 8) + (setup.guardvalue.0 % 16) as u8,
-        (guard % 256) as u8,
-        (guard / 256 % 256) as u8,
+        (core.power.guard.0 % 256) as u8,
+        (core.power.guard.0 / 256 % 256) as u8,
         (rtc.watchdog.0 % 256) as u8,
         (rtc.watchdog.0 / 256 % 256) as u8,
         (keys.mask % 256) as u8,
