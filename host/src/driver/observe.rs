@@ -74,19 +74,24 @@ fn tick(coverage: &mut Coverage, before: &Image, after: &Image) {
     mark(guard_end && !in_standby(after), Mark::GuardSilent);
     mark(!runs && word(before, GUARD_LEFT) != 0, Mark::GuardStopped);
     if second && before[DAY] != after[DAY] {
-        coverage.mark(Mark::Midnight);
-        let ending = Moment::of_registers(&before[..]).date();
-        if (ending.month, ending.date) == (2, 28) {
-            let leap = after[DATE] == 0x29;
-            coverage.mark(if leap { Mark::LeapDay } else { Mark::NoLeapDay });
-        }
-        if (ending.month, ending.date) == (12, 31) {
-            coverage.mark(Mark::YearEnd);
-            if ending.year == 99 {
-                coverage.mark(Mark::CenturyEnd);
-                if ending.century == 3 {
-                    coverage.mark(Mark::CycleEnd);
-                }
+        midnight(coverage, before, after);
+    }
+}
+
+/// Counts a tick's midnight, and what ends with its day.
+fn midnight(coverage: &mut Coverage, before: &Image, after: &Image) {
+    coverage.mark(Mark::Midnight);
+    let ending = Moment::of_registers(&before[..]).date();
+    if (ending.month, ending.date) == (2, 28) {
+        let leap = after[DATE] == 0x29;
+        coverage.mark(if leap { Mark::LeapDay } else { Mark::NoLeapDay });
+    }
+    if (ending.month, ending.date) == (12, 31) {
+        coverage.mark(Mark::YearEnd);
+        if ending.year == 99 {
+            coverage.mark(Mark::CenturyEnd);
+            if ending.century == 3 {
+                coverage.mark(Mark::CycleEnd);
             }
         }
     }
