@@ -202,6 +202,12 @@ fn supply_return(coverage: &mut Coverage, before: &Image, n: u32) {
     if start.count() + u64::from(n) >= SECONDS_PER_CYCLE {
         coverage.mark(Mark::CutCycle);
     }
+    cut_alarm(coverage, before, n);
+}
+
+/// Counts where in a cut of n seconds, at least one, the alarm matches.
+fn cut_alarm(coverage: &mut Coverage, before: &Image, n: u32) {
+    let start = Moment::of_registers(&before[..]);
     let alarm = Alarm::of_registers(&before[..]);
     let within = |count: u32| alarm.matches_within(start, count);
     coverage.mark(if before[AL_MONTH] & (AFE | ABE) != AFE | ABE {
