@@ -5,20 +5,13 @@
 use std::hint::black_box;
 use std::time::Instant;
 
+#[path = "../host/tests/clock/mod.rs"]
+mod clock;
+
+use clock::Clock;
+
 const CUT: u32 = 31_622_400;
 const RUNS: usize = 11;
-
-#[derive(Clone, Copy)]
-struct Clock {
-    second: u32,
-    minute: u32,
-    hour: u32,
-    weekday: u32,
-    date: u32,
-    month: u32,
-    year: u32,
-    century: u32,
-}
 
 /// Each field is the number to compare with, or nothing.
 #[derive(Clone, Copy)]
@@ -37,15 +30,6 @@ fn from_bcd(byte: u8) -> u32 {
 
 fn to_bcd(number: u32) -> u8 {
     (number / 10 * 16 + number % 10) as u8
-}
-
-fn month_length(month: u32, year: u32) -> u32 {
-    match month {
-        2 if year % 4 == 0 => 29,
-        2 => 28,
-        4 | 6 | 9 | 11 => 30,
-        _ => 31,
-    }
 }
 
 impl Clock {
@@ -70,43 +54,6 @@ impl Clock {
         registers[5] = to_bcd(self.date);
         registers[6] = (self.century << 6) as u8 | to_bcd(self.month);
         registers[7] = to_bcd(self.year);
-    }
-
-    fn step(&mut self) {
-        self.second += 1;
-        if self.second < 60 {
-            return;
-        }
-        self.second = 0;
-        self.minute += 1;
-        if self.minute < 60 {
-            return;
-        }
-        self.minute = 0;
-        self.hour += 1;
-        if self.hour == 24 {
-            self.hour = 0;
-            self.step_day();
-        }
-    }
-
-    fn step_day(&mut self) {
-        self.weekday = self.weekday % 7 + 1;
-        self.date += 1;
-        if self.date <= month_length(self.month, self.year) {
-            return;
-        }
-        self.date = 1;
-        self.month += 1;
-        if self.month <= 12 {
-            return;
-        }
-        self.month = 1;
-        self.year += 1;
-        if self.year == 100 {
-            self.year = 0;
-            self.century = (self.century + 1) % 4;
-        }
     }
 }
 
@@ -141,7 +88,7 @@ impl Alarm {
 fn cut(mut clock: Clock, alarm: Alarm, seconds: u32) -> (Clock, bool) {
     let mut matched = false;
     for _ in 0..seconds {
-        clock.step();
+        clock.next_second();
         matched |= alarm.matches(&clock);
     }
     (clock, matched)

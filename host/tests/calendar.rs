@@ -1,5 +1,8 @@
 //! The model's day counts against a clock that steps single seconds by plain carries.
 
+mod clock;
+
+use clock::Clock;
 use stled325_host::driver::images::{aim_alarm, random_moment, random_valid};
 use stled325_host::driver::random::Random;
 use stled325_host::model::alarm::{matches_now, Alarm};
@@ -8,63 +11,12 @@ use stled325_host::model::calendar::{
 };
 use stled325_host::model::Model;
 
-/// A clock of plain fields.
-#[derive(Clone, Copy, Debug, PartialEq)]
-struct Naive {
-    century: u32,
-    year: u32,
-    month: u32,
-    date: u32,
-    hour: u32,
-    minute: u32,
-    second: u32,
-    weekday: u32,
-}
-
-impl Naive {
-    fn next_day(&mut self) {
-        self.weekday = if self.weekday == 7 { 1 } else { self.weekday + 1 };
-        self.date += 1;
-        if self.date <= month_length(self.month, self.year.is_multiple_of(4)) {
-            return;
-        }
-        self.date = 1;
-        self.month += 1;
-        if self.month <= 12 {
-            return;
-        }
-        self.month = 1;
-        self.year += 1;
-        if self.year <= 99 {
-            return;
-        }
-        self.year = 0;
-        self.century = if self.century == 3 { 0 } else { self.century + 1 };
-    }
-
-    fn next_second(&mut self) {
-        self.second += 1;
-        if self.second < 60 {
-            return;
-        }
-        self.second = 0;
-        self.minute += 1;
-        if self.minute < 60 {
-            return;
-        }
-        self.minute = 0;
-        self.hour += 1;
-        if self.hour < 24 {
-            return;
-        }
-        self.hour = 0;
-        self.next_day();
-    }
-
-    fn of(moment: Moment) -> Naive {
+impl Clock {
+    /// The clock at the model's moment.
+    fn of(moment: Moment) -> Clock {
         let Date { century, year, month, date } = moment.date();
         let (hour, minute, second) = (moment.second / 3_600, moment.second / 60 % 60, moment.second % 60);
-        Naive { century, year, month, date, hour, minute, second, weekday: moment.weekday }
+        Clock { century, year, month, date, hour, minute, second, weekday: moment.weekday }
     }
 }
 
@@ -81,47 +33,47 @@ fn month_lengths_are_those_of_the_almanac() {
 #[test]
 fn every_day_of_the_cycle_has_its_date() {
     let start = Moment { day: 0, second: 0, weekday: 6 };
-    let mut naive = Naive::of(start);
-    assert_eq!((naive.century, naive.year, naive.month, naive.date), (0, 0, 1, 1));
+    let mut clock = Clock::of(start);
+    assert_eq!((clock.century, clock.year, clock.month, clock.date), (0, 0, 1, 1));
     for day in 0..DAYS_PER_CYCLE {
-        let date = Date { century: naive.century, year: naive.year, month: naive.month, date: naive.date };
+        let date = Date { century: clock.century, year: clock.year, month: clock.month, date: clock.date };
         assert_eq!(Date::of_day(day), date);
         assert_eq!(date.day_number(), day);
-        naive.next_day();
+        clock.next_day();
     }
-    assert_eq!((naive.century, naive.year, naive.month, naive.date), (0, 0, 1, 1));
+    assert_eq!((clock.century, clock.year, clock.month, clock.date), (0, 0, 1, 1));
     assert_eq!(SECONDS_PER_CYCLE, u64::from(DAYS_PER_CYCLE) * u64::from(SECONDS_PER_DAY));
 }
 
 #[test]
-fn seconds_step_as_the_naive_clock_does() {
+fn seconds_step_by_carries() {
     let mut random = Random::new(7);
     for _ in 0..200 {
         let mut moment = random_moment(&mut random);
-        let mut naive = Naive::of(moment);
+        let mut clock = Clock::of(moment);
         for _ in 0..200 {
             moment = moment.later(1);
-            naive.next_second();
-            assert_eq!(Naive::of(moment), naive);
+            clock.next_second();
+            assert_eq!(Clock::of(moment), clock);
         }
     }
 }
 
 #[test]
-fn long_moves_step_as_the_naive_clock_does() {
+fn long_moves_are_many_carries() {
     let mut random = Random::new(8);
     for _ in 0..20 {
         let start = random_moment(&mut random);
-        let mut naive = Naive::of(start);
+        let mut clock = Clock::of(start);
         let n = random.below(1_000_000);
-        (0..n).for_each(|_| naive.next_second());
-        assert_eq!(Naive::of(start.later(n)), naive);
+        (0..n).for_each(|_| clock.next_second());
+        assert_eq!(Clock::of(start.later(n)), clock);
     }
     // One whole longest cut, second by second, over the end of the cycle.
     let start = Moment { day: DAYS_PER_CYCLE - 100, second: 80_000, weekday: 3 };
-    let mut naive = Naive::of(start);
-    (0..31_622_400).for_each(|_| naive.next_second());
-    assert_eq!(Naive::of(start.later(31_622_400)), naive);
+    let mut clock = Clock::of(start);
+    (0..31_622_400).for_each(|_| clock.next_second());
+    assert_eq!(Clock::of(start.later(31_622_400)), clock);
 }
 
 #[test]

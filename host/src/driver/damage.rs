@@ -14,6 +14,13 @@ fn some_bits(random: &mut Random, bits: u8) -> u8 {
     }
 }
 
+/// A word above `most`, often the next one.
+fn word_above(random: &mut Random, most: u16) -> u16 {
+    let next = u32::from(most) + 1;
+    let above = if random.once_in(2) { next } else { random.from_to(next, 0xFFFF) };
+    above as u16
+}
+
 /// Breaks exactly this clause of a valid image.
 pub fn broken_in(image: &Image, clause: Clause, random: &mut Random) -> Image {
     let mut image = *image;
@@ -21,12 +28,7 @@ pub fn broken_in(image: &Image, clause: Clause, random: &mut Random) -> Image {
         Clause::Reserved(at) => image[at] |= some_bits(random, !KEPT[at]),
         Clause::Nibbles(field) => break_nibbles(&mut image, CALENDAR[field].at, random),
         Clause::Range(field) => break_range(&mut image, CALENDAR[field].at, random),
-        Clause::DateExists => {
-            let month = random.pick(&[2, 4, 6, 9, 11]);
-            image[CENTURY_MONTH] = image[CENTURY_MONTH] & 0xC0 | to_bcd(month);
-            let length = month_length(month, is_leap(from_bcd(image[YEAR])));
-            image[DATE] = to_bcd(random.from_to(length + 1, 31));
-        }
+        Clause::DateExists => break_date(&mut image, random),
         Clause::Sixteenths => image[SIXTEENTHS] = random.from_to(16, 255) as u8,
         Clause::Flags => image[FLAGS] |= some_bits(random, 0xFC),
         Clause::Pins => image[PINS] |= some_bits(random, 0xF8),
@@ -38,20 +40,13 @@ pub fn broken_in(image: &Image, clause: Clause, random: &mut Random) -> Image {
         }
         Clause::GuardWithinValue => {
             image[PINS] &= !STBY;
-            let most = u32::from(guard_load(&image));
-            let left = if random.once_in(2) { most + 1 } else { random.from_to(most + 1, 0xFFFF) };
-            set_word(&mut image, GUARD_LEFT, left as u16);
+            let load = guard_load(&image);
+            set_word(&mut image, GUARD_LEFT, word_above(random, load));
         }
-        Clause::NoGuardInStandby => {
-            image[PINS] |= STBY;
-            image[REMOTE_SETUP] |= random.from_to(1, 15) as u8;
-            let left = random.from_to(1, u32::from(guard_load(&image)));
-            set_word(&mut image, GUARD_LEFT, left as u16);
-        }
+        Clause::NoGuardInStandby => run_guard_in_standby(&mut image, random),
         Clause::WatchdogWithinLoad => {
-            let most = u32::from(watchdog_load(image[WATCHDOG]));
-            let left = if random.once_in(2) { most + 1 } else { random.from_to(most + 1, 0xFFFF) };
-            set_word(&mut image, WATCHDOG_LEFT, left as u16);
+            let load = watchdog_load(image[WATCHDOG]);
+            set_word(&mut image, WATCHDOG_LEFT, word_above(random, load));
         }
         Clause::Fresh => image[REMOTE_FRESH] = random.from_to(2, 255) as u8,
         Clause::RemoteAddress => image[REMOTE_ADDRESS] = random.from_to(1, 255) as u8,
@@ -65,6 +60,22 @@ pub fn broken_in(image: &Image, clause: Clause, random: &mut Random) -> Image {
         Clause::Unused(at) => image[at] = random.from_to(1, 255) as u8,
     }
     image
+}
+
+/// Puts a date into the calendar that its month lacks.
+fn break_date(image: &mut Image, random: &mut Random) {
+    let month = random.pick(&[2, 4, 6, 9, 11]);
+    image[CENTURY_MONTH] = image[CENTURY_MONTH] & 0xC0 | to_bcd(month);
+    let length = month_length(month, is_leap(from_bcd(image[YEAR])));
+    image[DATE] = to_bcd(random.from_to(length + 1, 31));
+}
+
+/// Lets the guard run within its value while STBY is high.
+fn run_guard_in_standby(image: &mut Image, random: &mut Random) {
+    image[PINS] |= STBY;
+    image[REMOTE_SETUP] |= random.from_to(1, 15) as u8;
+    let left = random.from_to(1, u32::from(guard_load(image)));
+    set_word(image, GUARD_LEFT, left as u16);
 }
 
 /// Puts a nibble above 9 into the field such that its number stays in range.

@@ -1,5 +1,7 @@
 //! Random calls, drawn so that each rule is met often from the image at hand.
 
+use std::ops::Range;
+
 use super::images::{aim_alarm, random_keys, random_moment};
 use super::random::Random;
 use super::trial::{Bytes, Call};
@@ -76,49 +78,59 @@ pub fn random_length(random: &mut Random, right: usize) -> usize {
     }
 }
 
-/// The data of a 50h command with its address in front.
-fn register_data(image: &Image, random: &mut Random) -> Vec<u8> {
-    let mut registers: [u8; 16] = image[..16].try_into().expect("sixteen registers");
-    random_moment(random).write(&mut registers);
-    let (from, to) = match random.below(8) {
-        0 | 1 => (SECONDS, YEAR + 1),
-        2 => (DATE, YEAR + 1),
-        3 => (DATE + random.below(2) as usize, CENTURY_MONTH + 1),
+/// The registers that a 50h command writes; some choices also change what it writes there.
+fn random_span(image: &Image, registers: &mut [u8; 16], random: &mut Random) -> Range<usize> {
+    match random.below(8) {
+        0 | 1 => SECONDS..YEAR + 1,
+        2 => DATE..YEAR + 1,
+        3 => DATE + random.below(2) as usize..CENTURY_MONTH + 1,
         4 => {
             let mut aimed = *image;
             let ahead = random.below(4);
             aim_alarm(&mut aimed, random, ahead);
             registers[AL_MONTH..].copy_from_slice(&aimed[AL_MONTH..16]);
-            (AL_MONTH, 16)
+            AL_MONTH..16
         }
         5 => {
             let any = random.byte();
             registers[WATCHDOG] =
                 random.pick(&[registers[WATCHDOG], 0x04, 0x05, 0x08, 0x80, 0xFC, 0x16, 0x83, any]);
-            (WATCHDOG - random.below(2) as usize, WATCHDOG + 1)
+            WATCHDOG - random.below(2) as usize..WATCHDOG + 1
         }
         6 => {
             let from = random.from_to(1, 15) as usize;
-            (from, from + 1 + random.below(16 - from as u32) as usize)
+            from..from + 1 + random.below(16 - from as u32) as usize
         }
         _ => {
             for register in &mut registers[1 + random.below(15) as usize..] {
                 *register = random.byte();
             }
-            (random.from_to(1, 15) as usize, 16)
-        }
-    };
-    let mut data = vec![from as u8];
-    data.extend_from_slice(&registers[from..to.max(from + 1).min(16)]);
-    for place in 1..data.len() {
-        if random.once_in(12) {
-            data[place] |= random.byte() & !KEPT[from + place - 1];
-        } else if random.once_in(24) {
-            data[place] ^= 1 << random.below(8);
-        } else if random.once_in(48) {
-            data[place] = random.byte();
+            random.from_to(1, 15) as usize..16
         }
     }
+}
+
+/// Sets reserved bits in some of the bytes for the registers `span`, and spoils a few others.
+fn spoil_data(data: &mut [u8], span: Range<usize>, random: &mut Random) {
+    for (byte, at) in data.iter_mut().zip(span) {
+        if random.once_in(12) {
+            *byte |= random.byte() & !KEPT[at];
+        } else if random.once_in(24) {
+            *byte ^= 1 << random.below(8);
+        } else if random.once_in(48) {
+            *byte = random.byte();
+        }
+    }
+}
+
+/// The data of a 50h command with its address in front.
+fn register_data(image: &Image, random: &mut Random) -> Vec<u8> {
+    let mut registers: [u8; 16] = image[..16].try_into().expect("sixteen registers");
+    random_moment(random).write(&mut registers);
+    let span = random_span(image, &mut registers, random);
+    let mut data = vec![span.start as u8];
+    data.extend_from_slice(&registers[span.clone()]);
+    spoil_data(&mut data[1..], span, random);
     data
 }
 

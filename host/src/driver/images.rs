@@ -123,10 +123,8 @@ fn random_registers(image: &mut Image, random: &mut Random) {
     random_moment(random).write(&mut image[..]);
 }
 
-/// Any valid image: every value of every field can come up, odd combinations too.
-pub fn random_valid(random: &mut Random) -> Image {
-    let mut image = [0; IMAGE_LEN];
-    random_registers(&mut image, random);
+/// Draws bytes 16 to 21, from the sixteenths to the remote setup.
+fn random_state(image: &mut Image, random: &mut Random) {
     image[SIXTEENTHS] = if random.once_in(2) { 15 } else { random.below(16) as u8 };
     image[FLAGS] = random.below(4) as u8;
     image[INTERRUPT] = if random.once_in(2) { 0 } else { random.byte() & random.byte() };
@@ -135,36 +133,55 @@ pub fn random_valid(random: &mut Random) -> Image {
     let protocol = random.pick(&[PROTOCOL_OFF, RC5, NEC, NEC]);
     let guard_value = if random.once_in(2) { random.below(3) } else { random.below(16) };
     image[REMOTE_SETUP] = protocol << 4 | guard_value as u8;
-    if !has(&image, PINS, STBY) {
-        let most = guard_load(&image);
-        let rest = random_rest(random, most);
-        set_word(&mut image, GUARD_LEFT, rest);
+}
+
+/// Draws what is left of the guard and of the watchdog; in standby no guard runs.
+fn random_rests(image: &mut Image, random: &mut Random) {
+    if !has(image, PINS, STBY) {
+        set_word(image, GUARD_LEFT, random_rest(random, guard_load(image)));
     }
-    let most = watchdog_load(image[WATCHDOG]);
-    let rest = random_rest(random, most);
-    set_word(&mut image, WATCHDOG_LEFT, rest);
+    set_word(image, WATCHDOG_LEFT, random_rest(random, watchdog_load(image[WATCHDOG])));
+}
+
+/// Draws the keys' words and the remote store.
+fn random_inputs(image: &mut Image, random: &mut Random) {
     for at in [HOT_KEYS, LAST_SAMPLE, ACCEPTED_KEYS, KEY_STORE] {
-        let keys = random_keys(random);
-        set_word(&mut image, at, keys);
+        set_word(image, at, random_keys(random));
     }
     if random.once_in(2) {
         image[REMOTE_FRESH] = 1;
         image[REMOTE_COMMAND] = random.byte();
     }
+}
+
+fn random_display(image: &mut Image, random: &mut Random) {
     image[DIGITS] = random.from_to(1, 5) as u8;
     image[DISPLAY_CONTROL] = random.byte() & 0x1F | if random.once_in(2) { DISPLAY_ON } else { 0 };
     for digit in &mut image[DIGIT_BYTES..UNUSED] {
         *digit = random.byte();
     }
-    match random.below(4) {
-        0 => {}
-        1 => aim_alarm(&mut image, random, 0),
-        2 => aim_alarm(&mut image, random, 1),
-        _ => {
-            let ahead = random.from_to(1, 40);
-            aim_alarm(&mut image, random, ahead);
-        }
-    }
+}
+
+/// Leaves the alarm as it is, or aims it at this second, the next or one of the next forty.
+fn random_aim(image: &mut Image, random: &mut Random) {
+    let ahead = match random.below(4) {
+        0 => return,
+        1 => 0,
+        2 => 1,
+        _ => random.from_to(1, 40),
+    };
+    aim_alarm(image, random, ahead);
+}
+
+/// Any valid image: every value of every field can come up, odd combinations too.
+pub fn random_valid(random: &mut Random) -> Image {
+    let mut image = [0; IMAGE_LEN];
+    random_registers(&mut image, random);
+    random_state(&mut image, random);
+    random_rests(&mut image, random);
+    random_inputs(&mut image, random);
+    random_display(&mut image, random);
+    random_aim(&mut image, random);
     debug_assert!(is_valid(&image));
     image
 }

@@ -74,19 +74,24 @@ fn tick(coverage: &mut Coverage, before: &Image, after: &Image) {
     mark(guard_end && !in_standby(after), Mark::GuardSilent);
     mark(!runs && word(before, GUARD_LEFT) != 0, Mark::GuardStopped);
     if second && before[DAY] != after[DAY] {
-        coverage.mark(Mark::Midnight);
-        let ending = Moment::of_registers(&before[..]).date();
-        if (ending.month, ending.date) == (2, 28) {
-            let leap = after[DATE] == 0x29;
-            coverage.mark(if leap { Mark::LeapDay } else { Mark::NoLeapDay });
-        }
-        if (ending.month, ending.date) == (12, 31) {
-            coverage.mark(Mark::YearEnd);
-            if ending.year == 99 {
-                coverage.mark(Mark::CenturyEnd);
-                if ending.century == 3 {
-                    coverage.mark(Mark::CycleEnd);
-                }
+        midnight(coverage, before, after);
+    }
+}
+
+/// Counts a tick's midnight, and what ends with its day.
+fn midnight(coverage: &mut Coverage, before: &Image, after: &Image) {
+    coverage.mark(Mark::Midnight);
+    let ending = Moment::of_registers(&before[..]).date();
+    if (ending.month, ending.date) == (2, 28) {
+        let leap = after[DATE] == 0x29;
+        coverage.mark(if leap { Mark::LeapDay } else { Mark::NoLeapDay });
+    }
+    if (ending.month, ending.date) == (12, 31) {
+        coverage.mark(Mark::YearEnd);
+        if ending.year == 99 {
+            coverage.mark(Mark::CenturyEnd);
+            if ending.century == 3 {
+                coverage.mark(Mark::CycleEnd);
             }
         }
     }
@@ -197,6 +202,12 @@ fn supply_return(coverage: &mut Coverage, before: &Image, n: u32) {
     if start.count() + u64::from(n) >= SECONDS_PER_CYCLE {
         coverage.mark(Mark::CutCycle);
     }
+    cut_alarm(coverage, before, n);
+}
+
+/// Counts where in a cut of n seconds, at least one, the alarm matches.
+fn cut_alarm(coverage: &mut Coverage, before: &Image, n: u32) {
+    let start = Moment::of_registers(&before[..]);
     let alarm = Alarm::of_registers(&before[..]);
     let within = |count: u32| alarm.matches_within(start, count);
     coverage.mark(if before[AL_MONTH] & (AFE | ABE) != AFE | ABE {
