@@ -1,4 +1,3 @@
-pub mod Promises
 pub mod Exact
 pub mod Refusals
 pub mod SoundCommands
