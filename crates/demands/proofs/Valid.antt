@@ -3,10 +3,11 @@ use Prim.Native.Nat.{ℕ, _<_}
 use mathlib.Core.Path.{_≡_, refl, sym, ap, subst, _∙_}
 use mathlib.Core.Bool.{false, not}
 use mathlib.Core.List.{List, [], _∷_, _++_}
+use mathlib.Core.Logic.{_⊎_, inl, inr}
 use native.Mathlib.Omega.{arith}
 use lib.Dec.{eqb}
 use lib.ListN.{length}
-use borrow.Author.Tests.{eqb-true, eqb-false, eq-eqb}
+use borrow.Author.Tests.{eqb-true, eqb-false, eq-eqb, not-false}
 use Rattle.common.specs.Grounds.{Ground, ground, NoneHolds}
 use Rattle.common.proofs.Choice.{by-cases}
 use Rattle.common.proofs.Each.{each-at, done, _also_}
@@ -25,10 +26,12 @@ use Rattle.properties.proofs.Sound.{sound-ticked, sound-sampled, sound-keyed, s
 use Rattle.panel.specs.declared.Panel.{Panel}
 use Rattle.panel.specs.PowerUp.{panelPoweredUp}
 use Rattle.panel.specs.Execute.{writesNoCalendar}
+use Rattle.image.specs.Layout.{Bytes}
 use Rattle.image.specs.Image.{decoded, encoded}
 use Rattle.image.specs.Sound.{SoundPanel}
 use Rattle.image.proofs.Bytes.{encoded-bytes}
 use Rattle.image.proofs.Laws.{decode-encode}
+use Rattle.validity.specs.Valid.{isValid}
 use Rattle.validity.proofs.Laws.{sound, encode-decode, valid-encoded}
 use Rattle.supply.proofs.Sound.{sound-returned}
 use Rattle.stled325.specs.Calls.{high, keyedBy}
@@ -43,6 +46,24 @@ valid-sound {l} v = sound l (v .valid) (v .bytes)
 
 pub sound-valid : {p : Panel} → SoundPanel p → Valid (encoded p)
 sound-valid {p} s = record { bytes = encoded-bytes p s; valid = valid-encoded p s }
+
+-- ---- An accepted event is power-up, or its image was valid
+
+module _ (l : List ℕ) (small : Bytes l) where
+  was-valid : not (isValid l) ≡ false → Valid l
+  was-valid n = record { bytes = small; valid = not-false (isValid l) n }
+
+  pub power-up-or-valid : (e : Event) (o : List ℕ) → after e l o .number ≡ 0 → (e ≡ powerUp) ⊎ Valid l
+  power-up-or-valid powerUp o a = inl refl
+  power-up-or-valid tick o a = inr (was-valid (grounds-exact tick l o .groundless a .0))
+  power-up-or-valid (sample n) o a = inr (was-valid (grounds-exact (sample n) l o .groundless a .0))
+  power-up-or-valid (frame n) o a = inr (was-valid (grounds-exact (frame n) l o .groundless a .0))
+  power-up-or-valid (ready level) o a = inr (was-valid (grounds-exact (ready level) l o .groundless a .0))
+  power-up-or-valid (wakeUp level) o a = inr (was-valid (grounds-exact (wakeUp level) l o .groundless a .0))
+  power-up-or-valid (command s) o a = inr (was-valid (grounds-exact (command s) l o .groundless a .0))
+  power-up-or-valid show o a = inr (was-valid (grounds-exact show l o .groundless a .0))
+  power-up-or-valid lines o a = inr (was-valid (grounds-exact lines l o .groundless a .0))
+  power-up-or-valid (supplyReturn n) o a = inr (was-valid (grounds-exact (supplyReturn n) l o .groundless a .0))
 
 -- ---- What an accepted command has
 
@@ -146,6 +167,9 @@ module _ {l : List ℕ} (v : Valid l) where
       (λ z. subst Valid (sym (refused-untouched e l o (eqb-false _ 0 z) .0)) v)
 
 -- ---- POWER-UP makes one of any 64 bytes
+
+pub powered-panel : (l o : List ℕ) → after powerUp l o .number ≡ 0 → decoded (after powerUp l o .image) ≡ panelPoweredUp
+powered-panel l o a = ap decoded (accepted-leaves powerUp l o a .0) ∙ decode-encode panelPoweredUp sound-powered-up
 
 pub power-up-valid : (l o : List ℕ) → length l ≡ 64 → (after powerUp l o .number ≡ 0) × Valid (after powerUp l o .image)
 power-up-valid l o n =
