@@ -7,7 +7,7 @@ use native.Mathlib.Omega.{arith}
 use lib.Dec.{lit<}
 use Rattle.common.specs.Fill.{upTo}
 use Rattle.common.proofs.Each.{each-at, done, _also_}
-use Rattle.calendar.specs.Date.{leap, monthLength}
+use Rattle.calendar.specs.Date.{monthLength}
 use Rattle.command.specs.Refusals.{bytesNeeded, roomNeeded, groundsBy}
 use Rattle.command.specs.Decode.{commandBy}
 use Rattle.registers.specs.Written.{stored, written}
@@ -48,15 +48,15 @@ pub time-given : Given (write 1 time)
 time-given = each-at (λ (b : ℕ). b < 256) (0x50 ∷ 1 ∷ time) 0 (lit< tt also lit< tt also lit< tt also lit< tt also lit< tt also done) (lit< tt)
 
 pub time-accepted : after (write 1 time) fresh [] .number ≡ 0
-unfolding decided isValid groundsBy bytesNeeded roomNeeded commandBy written stored validCalendar clockOf leap monthLength
+unfolding decided isValid groundsBy bytesNeeded roomNeeded commandBy written stored validCalendar clockOf monthLength
 time-accepted = refl
 
 pub steps-quiet : Quiet steps set
-unfolding decided isValid groundsBy bytesNeeded roomNeeded commandBy written stored validCalendar clockOf leap monthLength registersWritten secondPasses ticked guardTicked watchdogTicked clockTicked secondPassed raised sampled pressed
+unfolding decided isValid groundsBy bytesNeeded roomNeeded commandBy written stored validCalendar clockOf monthLength registersWritten secondPasses ticked guardTicked watchdogTicked clockTicked secondPassed raised sampled pressed
 steps-quiet = (tt, (refl, (lit< tt, (refl, (tt, (refl, tt))))))
 
 pub steps-awake : stby (afterAll steps set) ≡ false
-unfolding decided isValid groundsBy bytesNeeded roomNeeded commandBy written stored validCalendar clockOf leap monthLength registersWritten ticked guardTicked watchdogTicked clockTicked secondPassed raised sampled pressed readySet
+unfolding decided isValid groundsBy bytesNeeded roomNeeded commandBy written stored validCalendar clockOf monthLength registersWritten ticked guardTicked watchdogTicked clockTicked secondPassed raised sampled pressed readySet
 steps-awake = refl
 
 -- and 70h replies the time that was set

@@ -4,7 +4,7 @@ use mathlib.Core.Path.{_≡_, refl}
 use mathlib.Core.Bool.{true, cond}
 use mathlib.Core.List.{List, [], _∷_}
 use lib.ListN.{length, getD}
-use Rattle.common.proofs.Choice.{of-cond, ap-cond}
+use Rattle.common.proofs.Choice.{of-cond, ap-cond, by-cases}
 use Rattle.calendar.specs.Date.{leap, monthLength}
 use Rattle.registers.specs.Names.{at}
 use Rattle.registers.specs.Written.{reservedClear, stored, written}
@@ -48,17 +48,17 @@ module _ (rs : List ℕ) (a : ℕ) (bytes : List ℕ) where
 abbrev pub dated : ℕ → ℕ → List ℕ
 dated month date = 0 ∷ 0 ∷ 0 ∷ 0 ∷ 4 ∷ date ∷ month ∷ 0x24 ∷ 0 ∷ 0 ∷ 0 ∷ 0 ∷ 0 ∷ 0 ∷ 0 ∷ 0 ∷ []
 
--- 28 February to 31 March in one write, date first, is accepted; the date alone is refused
+-- 28 February to 31 March in one write, date first, is accepted; the date alone is refused, leap year or not
 pub date-first : (committed (dated 0x02 0x28) 0x05 (0x31 ∷ 0x03 ∷ []) ≡ accepted (dated 0x03 0x31)) × (committed (dated 0x02 0x28) 0x05 (0x31 ∷ []) ≡ refused (dated 0x02 0x28))
-unfolding committed written stored validCalendar clockOf monthLength leap
-date-first = (refl, refl)
+unfolding committed written stored validCalendar clockOf monthLength
+date-first = (refl, by-cases (committed (dated 0x02 0x28) 0x05 (0x31 ∷ []) ≡ refused (dated 0x02 0x28)) (leap 24) (λ e. rw e refl) (λ e. rw e refl))
 
 -- edge reading 6: date 31h with month 04h
 pub reading-6 : committed (dated 0x03 0x31) 0x06 (0x04 ∷ []) ≡ refused (dated 0x03 0x31)
-unfolding committed written stored validCalendar clockOf monthLength leap
+unfolding committed written stored validCalendar clockOf monthLength
 reading-6 = refl
 
 -- edge reading 7: seconds 1Ah
 pub reading-7 : committed (dated 0x03 0x31) 0x01 (0x1A ∷ []) ≡ refused (dated 0x03 0x31)
-unfolding committed written stored validCalendar clockOf monthLength leap
+unfolding committed written stored validCalendar clockOf monthLength
 reading-7 = refl
