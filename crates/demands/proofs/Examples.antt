@@ -22,10 +22,11 @@ use Rattle.properties.specs.Causes.{secondPasses}
 use Rattle.panel.specs.PowerUp.{panelPoweredUp}
 use Rattle.image.specs.Image.{encoded}
 use Rattle.validity.specs.Valid.{isValid}
+use Rattle.supply.proofs.Sound.{sound-powered}
 use Rattle.stled325.specs.Outcome.{decided}
 use Rattle.demands.specs.Event.{tick, sample, ready, Given, after, Valid, stby}
 use Rattle.demands.specs.Clock.{Step, afterAll, Quiet}
-use Rattle.demands.proofs.Valid.{sound-valid, sound-powered-up}
+use Rattle.demands.proofs.Valid.{sound-valid}
 use Rattle.demands.proofs.ReadBack.{write, read, read-back}
 
 abbrev fresh : List ℕ
@@ -42,7 +43,7 @@ abbrev steps : List Step
 steps = record { event = tick; output = [] } ∷ record { event = sample 1; output = [] } ∷ record { event = ready 1; output = [] } ∷ []
 
 pub fresh-valid : Valid fresh
-fresh-valid = sound-valid sound-powered-up
+fresh-valid = sound-valid sound-powered
 
 pub time-given : Given (write 1 time)
 time-given = each-at (λ (b : ℕ). b < 256) (0x50 ∷ 1 ∷ time) 0 (lit< tt also lit< tt also lit< tt also lit< tt also lit< tt also done) (lit< tt)

@@ -1,16 +1,14 @@
 -- Demand 1: from a valid image every event leaves a valid image. Assumes nothing.
-use Prim.Native.Nat.{ℕ, _<_}
+use Prim.Native.Nat.{ℕ}
 use mathlib.Core.Path.{_≡_, refl, sym, ap, subst, _∙_}
 use mathlib.Core.Bool.{false, not}
 use mathlib.Core.List.{List, [], _∷_, _++_}
 use mathlib.Core.Logic.{_⊎_, inl, inr}
-use native.Mathlib.Omega.{arith}
 use lib.Dec.{eqb}
 use lib.ListN.{length}
 use borrow.Author.Tests.{eqb-true, eqb-false, eq-eqb, not-false}
 use Rattle.common.specs.Grounds.{Ground, ground, NoneHolds}
 use Rattle.common.proofs.Choice.{by-cases}
-use Rattle.common.proofs.Each.{each-at, done, _also_}
 use Rattle.remote.specs.declared.Received.{Received}
 use Rattle.remote.specs.declared.Received.the-variants.{Key, NoKey}
 use Rattle.remote.specs.Frame.{keyOf}
@@ -22,7 +20,7 @@ use Rattle.command.proofs.Accepted.{none-awake, none-holds}
 use Rattle.controller.specs.declared.Core.{Core}
 use Rattle.controller.specs.Sound.{Sound}
 use Rattle.controller.specs.Remote.{keyed}
-use Rattle.properties.proofs.Sound.{sound-ticked, sound-sampled, sound-keyed, sound-readySet, sound-wakeUpSet, sound-poweredUp}
+use Rattle.properties.proofs.Sound.{sound-ticked, sound-sampled, sound-keyed, sound-readySet, sound-wakeUpSet}
 use Rattle.panel.specs.declared.Panel.{Panel}
 use Rattle.panel.specs.PowerUp.{panelPoweredUp}
 use Rattle.panel.specs.Execute.{writesNoCalendar}
@@ -33,7 +31,7 @@ use Rattle.image.proofs.Bytes.{encoded-bytes}
 use Rattle.image.proofs.Laws.{decode-encode}
 use Rattle.validity.specs.Valid.{isValid}
 use Rattle.validity.proofs.Laws.{sound, encode-decode, valid-encoded}
-use Rattle.supply.proofs.Sound.{sound-returned}
+use Rattle.supply.proofs.Sound.{sound-powered, sound-returned}
 use Rattle.stled325.specs.Calls.{high, keyedBy}
 use Rattle.demands.specs.Event.{Event, powerUp, tick, sample, frame, ready, wakeUp, command, show, lines, supplyReturn, Given, panelAfter, imageAfter, after, Valid}
 use Rattle.demands.proofs.Refusals.{refused-untouched, accepted-leaves, grounds-exact}
@@ -100,20 +98,6 @@ sound-keyedBy : {c : Core} → Sound 16 c → (r : Received) → Ours r → Soun
 sound-keyedBy {c} h (Key a k) u = subst (λ (x : ℕ). Sound 16 (keyed c x k)) (sym (eqb-true a 0 (u .to-us))) (sound-keyed h k (u .command))
 sound-keyedBy h NoKey u = h
 
-pub sound-powered-up : SoundPanel panelPoweredUp
-sound-powered-up =
-    record {
-      core = sound-poweredUp 16;
-      display =
-          record {
-            some = omega arith;
-            most = omega arith;
-            control = omega arith;
-            sized = refl;
-            bytes = each-at (λ (x : ℕ). x < 256) (0 ∷ 0 ∷ 0 ∷ 0 ∷ 0 ∷ []) 0 (omega arith also omega arith also omega arith also omega arith also omega arith also done) (omega arith);
-          };
-    }
-
 module _ {l : List ℕ} (v : Valid l) where
   abbrev h : SoundPanel (decoded l)
   h = valid-sound v
@@ -123,7 +107,7 @@ module _ {l : List ℕ} (v : Valid l) where
 
   -- the panel after an accepted event is sound
   pub sound-after : (e : Event) → Given e → (o : List ℕ) → after e l o .number ≡ 0 → SoundPanel (panelAfter e (decoded l))
-  sound-after powerUp g o a = sound-powered-up
+  sound-after powerUp g o a = sound-powered
   sound-after tick g o a = on-core _ (sound-ticked (h .core))
   sound-after (sample n) g o a = on-core _ (sound-sampled (h .core) n g)
   sound-after (frame n) g o a = on-core _ (sound-keyedBy (h .core) (keyOf (decoded l .core .setup .protocol) n) (key-ours (decoded l .core .setup .protocol) n))
@@ -169,9 +153,9 @@ module _ {l : List ℕ} (v : Valid l) where
 -- ---- POWER-UP makes one of any 64 bytes
 
 pub powered-panel : (l o : List ℕ) → after powerUp l o .number ≡ 0 → decoded (after powerUp l o .image) ≡ panelPoweredUp
-powered-panel l o a = ap decoded (accepted-leaves powerUp l o a .0) ∙ decode-encode panelPoweredUp sound-powered-up
+powered-panel l o a = ap decoded (accepted-leaves powerUp l o a .0) ∙ decode-encode panelPoweredUp sound-powered
 
 pub power-up-valid : (l o : List ℕ) → length l ≡ 64 → (after powerUp l o .number ≡ 0) × Valid (after powerUp l o .image)
 power-up-valid l o n =
     let a = grounds-exact powerUp l o .accepted ((λ i. not (eq-eqb (length l) 64 n i)), tt) in
-    (a, subst Valid (sym (accepted-leaves powerUp l o a .0)) (sound-valid sound-powered-up))
+    (a, subst Valid (sym (accepted-leaves powerUp l o a .0)) (sound-valid sound-powered))
