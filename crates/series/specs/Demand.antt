@@ -1,4 +1,5 @@
--- Demand 3, of a series of supply returns after ns from the image l, which leaves the image after, and its numbers in answers, which held before.
+-- Demand 3: what a series of supply returns does, one return for each count of seconds in ns, from the image l to the image after.
+-- Each return writes its number to its place in a list, which holds before at the start and answers at the end.
 use Prim.Native.Nat.{ℕ, _+_, _%_, _≤_}
 use mathlib.Core.Path.{_≡_}
 use mathlib.Core.Bool.{Bool, true, false, not, _&&_, _||_}
