@@ -1,4 +1,5 @@
--- `series::supply_series` meets its contract. The invariant: after i returns the image and the numbers are those of the series of the first i.
+-- `series::supply_series` meets its contract. The invariant: after i returns the image and the numbers are those of the series of the
+-- first i. Assumes nothing.
 use Prim.Native.Nat.{ℕ, suc, _+_, _-_, _≤_, _<_}
 use mathlib.Core.Path.{_≡_, refl, sym, ap, subst, _∙_}
 use mathlib.Core.List.{List, [], _∷_, _++_}
