@@ -24,14 +24,6 @@ matches a c =
     ∷ fits (a .weekday) (c .weekday)
     ∷ [])
 
--- the three fields of the time, at the second t of the day
-unfoldable pub timeFits : Alarm → ℕ → Bool
-timeFits a t = conj (fits (a .second) (t % 60) ∷ fits (a .minute) (t / 60 % 60) ∷ fits (a .hour) (t / 3600) ∷ [])
-
--- the three fields of the day
-unfoldable pub dayFits : Alarm → Clock → Bool
-dayFits a c = conj (fits (a .date) (c .date) ∷ fits (a .month) (c .month) ∷ fits (a .weekday) (c .weekday) ∷ [])
-
 -- a field that is not compared, or that some time has
 unfoldable pub inRange : Field → ℕ → ℕ → Bool
 inRange f lo hi = f .any || (leb lo (f .value) && leb (f .value) hi)
@@ -47,3 +39,13 @@ possible a =
     ∷ inRange (a .month) 1 12
     ∷ inRange (a .weekday) 1 7
     ∷ [])
+
+-- ---- Parts of a match, for the search through a day. They are no rule of document 01: laws say that together they are the match.
+
+-- the three fields of the time, at the second t of the day
+unfoldable pub timeFits : Alarm → ℕ → Bool
+timeFits a t = conj (fits (a .second) (t % 60) ∷ fits (a .minute) (t / 60 % 60) ∷ fits (a .hour) (t / 3600) ∷ [])
+
+-- the three fields of the day
+unfoldable pub dayFits : Alarm → Clock → Bool
+dayFits a c = conj (fits (a .date) (c .date) ∷ fits (a .month) (c .month) ∷ fits (a .weekday) (c .weekday) ∷ [])

@@ -1,8 +1,8 @@
--- Laws of the date and the day's number, both round trips. Of the leap rule one computed total is used, of the months
--- that none is empty and none longer than 31 days. Assumes nothing.
+-- Laws of the date and the day's number, both round trips. Of the leap rule only the days of the four centuries are used, which
+-- are computed once, of the months that none is empty and none longer than 31 days. Assumes nothing.
 use mathlib.Core.Path.{_≡_, refl, sym, ap, subst, _∙_}
 use mathlib.Core.Bool.{Bool, true, false, _||_}
-use Prim.Native.Nat.{ℕ, zero, suc, _+_, _-_, _≤_, _<_}
+use Prim.Native.Nat.{ℕ, zero, suc, _+_, _-_, _*_, _≤_, _<_}
 use native.Mathlib.Nat.{add-sub-cancel}
 use native.Mathlib.Numerals.{add-one}
 use native.Mathlib.Omega.{arith}
@@ -14,15 +14,15 @@ use Rattle.calendar.proofs.Sums.{sums-none, sums-suc, sums-mono, place-
 
 -- ---- what is computed
 
--- the days of four centuries: the one place where the leap rule is computed
-pub total : yearsBefore 400 ≡ calendarDays
+-- the days of one, two, three and four centuries: beside the proof of `is_leap` and the computed edge readings nothing else looks
+-- into the leap rule
+pub centuries : (yearsBefore 100 ≡ 36_525) × (yearsBefore 200 ≡ 73_050) × (yearsBefore 300 ≡ 109_575) × (yearsBefore 400 ≡ calendarDays)
 unfolding yearsBefore sums yearLength monthsBefore monthLength leap
-total = refl
+centuries = (refl, refl, refl, refl)
 
--- a century has 36,525 days
-pub century : yearsBefore 100 ≡ 36_525
-unfolding yearsBefore sums yearLength monthsBefore monthLength leap
-century = refl
+-- the days of the whole calendar
+pub total : yearsBefore 400 ≡ calendarDays
+total = centuries .3
 
 -- months have from 28 to 31 days
 pub month-range : (b : Bool) (m : ℕ) → (28 ≤ monthLength b m) × (monthLength b m ≤ 31)
@@ -66,6 +66,14 @@ years-mono i k h = sums-mono yearLength i k h
 years-none : yearsBefore 0 ≡ 0
 unfolding yearsBefore
 years-none = sums-none yearLength
+
+-- each of the four centuries has 36,525 days
+pub century : (k : ℕ) → k < 4 → yearsBefore (100 * k + 100) ≡ yearsBefore (100 * k) + 36_525
+century zero h = omega (arith, years-none, centuries .0)
+century (suc zero) h = omega (arith, centuries .0, centuries .1)
+century (suc (suc zero)) h = omega (arith, centuries .1, centuries .2)
+century (suc (suc (suc zero))) h = omega (arith, centuries .2, centuries .3)
+century (suc (suc (suc (suc k)))) h = absurd (omega arith)
 
 -- ---- from a day's number to the date
 module _ (k : ℕ) (h : k < calendarDays) where

@@ -5,7 +5,7 @@ use Prim.Native.Nat.{ℕ, zero, suc, _+_, _<_, _≤_}
 use native.Mathlib.Nat.{le-of-suc-le-suc, not-suc-le-zero}
 use native.Mathlib.Omega.{arith}
 use native.Mathlib.Numerals.{add-one}
-use lib.ListN.{length, getD, drop, set, length-append, length-drop, drop-of-length-le}
+use lib.ListN.{length, getD, drop, set, length-append, drop-of-length-le}
 use lib.Seq.{drop-cons, set-at, append-snoc}
 use Rattle.common.specs.Fill.{upTo, front}
 
@@ -31,10 +31,6 @@ unfolding front
 front-all f n d e =
     let h : length d ≤ n = omega arith in
     ap (λ (l : List ℕ). upTo f n ++ l) (drop-of-length-le d h) ∙ append-nil (upTo f n) ∙ ap (upTo f) e
-
-pub front-length : (f : ℕ → ℕ) (n : ℕ) (d : List ℕ) → n ≤ length d → length (front f n d) ≡ length d
-unfolding front
-front-length f n d h = simp (length-append, upTo-length, length-drop) (omega arith)
 
 -- within a list the default does not matter
 pub getD-any : (l : List ℕ) (i d e : ℕ) → i < length l → getD l i d ≡ getD l i e

@@ -1,4 +1,4 @@
--- The refusal rule: a table of grounds with their numbers, of which the first true one gives the answer.
+-- Document 01, "Refusal numbers, in order of checking": a list of grounds with their numbers, of which the first true one gives the answer.
 use Prim.Native.Nat.{ℕ}
 use mathlib.Core.Path.{_≡_}
 use mathlib.Core.Bool.{Bool, false, cond}

@@ -1,7 +1,9 @@
--- Demand 2: the clock registers change by a tick that passes a second, an accepted 50h, power-up and supply return alone. Assumes nothing.
+-- Demand 2: the clock registers change by a tick that passes a second, an accepted 50h, power-up and supply return alone, whatever
+-- bytes the image held. Assumes nothing.
 use Prim.Native.Nat.{ℕ}
-use mathlib.Core.Path.{_≡_, refl, ap, _∙_}
+use mathlib.Core.Path.{_≡_, refl, sym, ap, _∙_}
 use mathlib.Core.Bool.{Bool, false, cond, true≢false}
+use mathlib.Core.Logic.{⊎-elim}
 use mathlib.Core.List.{List, [], _∷_}
 use lib.Dec.{eqb}
 use borrow.Author.Tests.{eqb-true, eqb-false}
@@ -17,13 +19,14 @@ use Rattle.controller.specs.declared.Rtc.{Rtc}
 use Rattle.properties.specs.Causes.{nextSecond}
 use Rattle.properties.proofs.Kept.{registers-ticked, rtc-sampled, rtc-keyed, rtc-readySet, rtc-wakeUpSet}
 use Rattle.panel.specs.declared.Panel.{Panel}
+use Rattle.image.specs.Layout.{Bytes}
 use Rattle.image.specs.Image.{registersIn, decoded}
 use Rattle.stled325.specs.Calls.{high, keyedBy}
 use Rattle.demands.specs.Event.{Event, powerUp, tick, sample, frame, ready, wakeUp, command, show, lines, supplyReturn, Given, panelAfter, after, Valid}
 use Rattle.demands.specs.Clock.{writesClock, changesClock, Step, afterAll, Quiet}
 use Rattle.demands.proofs.Refusals.{refused-untouched}
 use Rattle.demands.proofs.Commands.{write-byte, registers-executed}
-use Rattle.demands.proofs.Valid.{valid-sound, accepted-panel, stays-valid}
+use Rattle.demands.proofs.Valid.{valid-sound, power-up-or-valid, accepted-panel, stays-valid}
 
 -- ---- One event
 
@@ -50,14 +53,23 @@ module _ {l : List ℕ} (v : Valid l) where
   kept-each lines n = refl
   kept-each (supplyReturn k) n = absurd (true≢false n)
 
-  -- ---- EVERY OTHER EVENT, refused ones among them, leaves the sixteen registers as they were
+  kept-of-valid : (e : Event) → Given e → (o : List ℕ) → after e l o .number ≡ 0 → writesClock e c ≡ false → registersIn (after e l o .image) ≡ registersIn l
+  kept-of-valid e g o a n = ap (λ (p : Panel). p .core .rtc .registers) (accepted-panel v e g o a) ∙ kept-each e n
 
-  pub clock-kept : (e : Event) → Given e → (o : List ℕ) → changesClock e l o ≡ false → registersIn (after e l o .image) ≡ registersIn l
-  clock-kept e g o n =
-      by-cases (registersIn (after e l o .image) ≡ registersIn l) (eqb (after e l o .number) 0)
-      (λ z. ap (λ (p : Panel). p .core .rtc .registers) (accepted-panel v e g o (eqb-true _ 0 z))
-      ∙ kept-each e (not-other (eqb (after e l o .number) 0) (writesClock e c) z n))
-      (λ z. ap registersIn (refused-untouched e l o (eqb-false _ 0 z) .0))
+-- ---- EVERY OTHER EVENT, refused ones among them, leaves the sixteen registers as they were
+
+pub clock-kept : (l : List ℕ) → Bytes l → (e : Event) → Given e → (o : List ℕ) → changesClock e l o ≡ false → registersIn (after e l o .image) ≡ registersIn l
+clock-kept l small e g o n =
+    by-cases (registersIn (after e l o .image) ≡ registersIn l) (eqb (after e l o .number) 0) (λ z. kept (eqb-true _ 0 z) (not-other (eqb (after e l o .number) 0) (writesClock e c) z n))
+    (λ z. ap registersIn (refused-untouched e l o (eqb-false _ 0 z) .0))
+  where
+    c : Core
+    c = decoded l .core
+
+    kept : after e l o .number ≡ 0 → writesClock e c ≡ false → registersIn (after e l o .image) ≡ registersIn l
+    kept a w =
+        ⊎-elim (λ (p : e ≡ powerUp). absurd (true≢false (sym (ap (λ (x : Event). writesClock x c) p) ∙ w))) (λ (v : Valid l). kept-of-valid v e g o a w)
+        (power-up-or-valid l small e o a)
 
 -- ---- Events one after the other
 
@@ -67,5 +79,5 @@ all-valid (x ∷ xs) v q = all-valid xs (stays-valid v (x .event) (q .0) (x .out
 
 pub all-kept : (xs : List Step) {l : List ℕ} → Valid l → Quiet xs l → registersIn (afterAll xs l) ≡ registersIn l
 all-kept [] v q = refl
-all-kept (x ∷ xs) v q =
-    all-kept xs (stays-valid v (x .event) (q .0) (x .output)) (q .1 .1) ∙ clock-kept v (x .event) (q .0) (x .output) (q .1 .0)
+all-kept (x ∷ xs) {l} v q =
+    all-kept xs (stays-valid v (x .event) (q .0) (x .output)) (q .1 .1) ∙ clock-kept l (v .bytes) (x .event) (q .0) (x .output) (q .1 .0)

@@ -1,15 +1,16 @@
 -- Demand 1: a refused event changes nothing, and its number is that of the first ground that holds. Assumes nothing.
 use Prim.Native.Nat.{ℕ}
-use mathlib.Core.Path.{_≡_, refl, sym}
+use mathlib.Core.Path.{_≡_, refl}
 use mathlib.Core.Bool.{true, false}
 use mathlib.Core.List.{List}
 use lib.Dec.{eqb}
-use borrow.Author.Tests.{eqb-true, eqb-false}
+use borrow.Author.Tests.{eqb-false}
 use Rattle.common.specs.Grounds.{Ground, firstGround}
 use Rattle.common.proofs.Choice.{of-cond}
 use Rattle.common.proofs.Grounds.{numbered}
 use Rattle.command.specs.Refusals.{groundsBy}
 use Rattle.stled325.specs.Outcome.{Outcome, outcome, decided}
+use Rattle.stled325.proofs.Decided.{decided-number}
 use Rattle.demands.specs.Event.{Event, powerUp, tick, sample, frame, ready, wakeUp, command, show, lines, supplyReturn, groundsOf, imageAfter, replyAfter, after}
 use Rattle.demands.specs.Exact.{rising, Exact}
 use Rattle.demands.proofs.Exact.{exact}
@@ -19,10 +20,6 @@ use Rattle.demands.proofs.Exact.{exact}
 module _ (gs : List Ground) (l o m q : List ℕ) where
   abbrev n : ℕ
   n = firstGround gs
-
-  decided-number : decided gs l o m q .number ≡ firstGround gs
-  unfolding decided
-  decided-number = of-cond (λ (x : Outcome). x .number ≡ n) (eqb n 0) (outcome 0 m q) (outcome n l o) (λ e. sym (eqb-true n 0 e)) (λ e. refl)
 
   decided-refused : (decided gs l o m q .number ≡ 0 → ⊥) → (decided gs l o m q .image ≡ l) × (decided gs l o m q .output ≡ o)
   unfolding decided

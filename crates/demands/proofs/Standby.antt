@@ -1,7 +1,9 @@
--- Demand 2: STBY after each event, by exactly the causes of document 01. Assumes nothing.
+-- Demand 2: STBY after each event, by exactly the causes of document 01, whatever bytes the image held: from one that is not valid
+-- power-up alone is accepted. Assumes nothing.
 use Prim.Native.Nat.{ℕ}
-use mathlib.Core.Path.{_≡_, refl, sym, ap, _∙_}
+use mathlib.Core.Path.{_≡_, refl, sym, ap, subst, _∙_}
 use mathlib.Core.Bool.{Bool, true, false, cond, not, _&&_, _||_, true≢false, false≢true}
+use mathlib.Core.Logic.{⊎-elim}
 use mathlib.Core.List.{List}
 use lib.Dec.{eqb}
 use borrow.Author.Tests.{eqb-true, eqb-false, not-false}
@@ -15,6 +17,7 @@ use Rattle.controller.specs.declared.Core.{Core}
 use Rattle.properties.specs.Causes.{hotPress, remoteCounts, readyFalls, wakeUpRises}
 use Rattle.properties.proofs.Standby.{stby-ticked, stby-sampled, stby-keyed, stby-readySet, stby-wakeUpSet}
 use Rattle.panel.specs.declared.Panel.{Panel}
+use Rattle.image.specs.Layout.{Bytes}
 use Rattle.image.specs.Image.{decoded}
 use Rattle.stled325.specs.Calls.{high, isNoKey, keyedBy}
 use Rattle.demands.specs.Event.{Event, powerUp, tick, sample, frame, ready, wakeUp, command, show, lines, supplyReturn, Given, panelAfter, after, Valid, stby}
@@ -22,7 +25,7 @@ use Rattle.demands.specs.Exact.{Exactly}
 use Rattle.demands.specs.Standby.{begins, ends}
 use Rattle.demands.proofs.Refusals.{refused-untouched, grounds-exact}
 use Rattle.demands.proofs.Commands.{standby-byte, stby-executed}
-use Rattle.demands.proofs.Valid.{valid-sound, command-awake, accepted-panel}
+use Rattle.demands.proofs.Valid.{valid-sound, power-up-or-valid, command-awake, accepted-panel, powered-panel}
 
 -- ---- One event, by STBY before it
 
@@ -46,30 +49,42 @@ stby-keyedBy : (c : Core) (r : Received) → isNoKey r ≡ false → (keyedBy r 
 stby-keyedBy c (Key a k) n = stby-keyed c a k ∙ ended (c .power .stby) (remoteCounts c)
 stby-keyedBy c NoKey n = absurd (true≢false n)
 
-module _ {l : List ℕ} (v : Valid l) where
+abbrev stbyOf : Panel → Bool
+stbyOf p = p .core .power .stby
+
+module _ (l : List ℕ) where
   abbrev c : Core
   c = decoded l .core
 
-  after-each : (e : Event) (o : List ℕ) → after e l o .number ≡ 0 → (panelAfter e (decoded l)) .core .power .stby ≡ cond (stby l) (not (ends e c)) (begins e c)
-  after-each powerUp o a = lowered (stby l)
-  after-each tick o a = stby-ticked (valid-sound v .core)
-  after-each (sample n) o a = stby-sampled c n ∙ ended (stby l) (hotPress c n)
-  after-each (frame n) o a = stby-keyedBy c (keyOf (c .setup .protocol) n) (grounds-exact (frame n) l o .groundless a .1 .0)
-  after-each (ready level) o a = stby-readySet c (high level) ∙ begun (stby l) (readyFalls c (high level))
-  after-each (wakeUp level) o a = stby-wakeUpSet c (high level) ∙ ended (stby l) (wakeUpRises c (high level))
-  after-each (command s) o a =
-      stby-executed (decoded l) s (command-awake s l o a) (commandOf s)
-      ∙ standby-byte (byte s 0) (byte s 1) (byte s 2)
-      ∙ ap (λ (b : Bool). cond b true (begins (command s) c)) (sym (command-awake s l o a))
-  after-each show o a = same (stby l)
-  after-each lines o a = same (stby l)
-  after-each (supplyReturn n) o a = lowered (stby l)
+  module _ (v : Valid l) where
+    after-each : (e : Event) (o : List ℕ) → after e l o .number ≡ 0 → (panelAfter e (decoded l)) .core .power .stby ≡ cond (stby l) (not (ends e c)) (begins e c)
+    after-each powerUp o a = lowered (stby l)
+    after-each tick o a = stby-ticked (valid-sound v .core)
+    after-each (sample n) o a = stby-sampled c n ∙ ended (stby l) (hotPress c n)
+    after-each (frame n) o a = stby-keyedBy c (keyOf (c .setup .protocol) n) (grounds-exact (frame n) l o .groundless a .1 .0)
+    after-each (ready level) o a = stby-readySet c (high level) ∙ begun (stby l) (readyFalls c (high level))
+    after-each (wakeUp level) o a = stby-wakeUpSet c (high level) ∙ ended (stby l) (wakeUpRises c (high level))
+    after-each (command s) o a =
+        stby-executed (decoded l) s (command-awake s l o a) (commandOf s)
+        ∙ standby-byte (byte s 0) (byte s 1) (byte s 2)
+        ∙ ap (λ (b : Bool). cond b true (begins (command s) c)) (sym (command-awake s l o a))
+    after-each show o a = same (stby l)
+    after-each lines o a = same (stby l)
+    after-each (supplyReturn n) o a = lowered (stby l)
 
-  module _ (e : Event) (g : Given e) (o : List ℕ) where
+    exact-of-valid : (e : Event) → Given e → (o : List ℕ) → after e l o .number ≡ 0 → stby (after e l o .image) ≡ cond (stby l) (not (ends e c)) (begins e c)
+    exact-of-valid e g o a = ap stbyOf (accepted-panel v e g o a) ∙ after-each e o a
+
+  module _ (small : Bytes l) (e : Event) (g : Given e) (o : List ℕ) where
     -- ---- AN ACCEPTED EVENT
 
     pub standby-exact : after e l o .number ≡ 0 → stby (after e l o .image) ≡ cond (stby l) (not (ends e c)) (begins e c)
-    standby-exact a = ap (λ (p : Panel). p .core .power .stby) (accepted-panel v e g o a) ∙ after-each e o a
+    standby-exact a =
+        ⊎-elim (λ (p : e ≡ powerUp). subst Stands (sym p) (λ z. ap stbyOf (powered-panel l o z) ∙ lowered (stby l)) a) (λ (v : Valid l). exact-of-valid v e g o a)
+        (power-up-or-valid l small e o a)
+      where
+        Stands : Event → Type 0
+        Stands x = after x l o .number ≡ 0 → stby (after x l o .image) ≡ cond (stby l) (not (ends x c)) (begins x c)
 
     -- a refused one leaves STBY
     refused-stby : (after e l o .number ≡ 0 → ⊥) → stby (after e l o .image) ≡ stby l

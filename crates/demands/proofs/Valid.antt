@@ -1,15 +1,14 @@
 -- Demand 1: from a valid image every event leaves a valid image. Assumes nothing.
-use Prim.Native.Nat.{ℕ, _<_}
+use Prim.Native.Nat.{ℕ}
 use mathlib.Core.Path.{_≡_, refl, sym, ap, subst, _∙_}
 use mathlib.Core.Bool.{false, not}
 use mathlib.Core.List.{List, [], _∷_, _++_}
-use native.Mathlib.Omega.{arith}
+use mathlib.Core.Logic.{_⊎_, inl, inr}
 use lib.Dec.{eqb}
 use lib.ListN.{length}
-use borrow.Author.Tests.{eqb-true, eqb-false, eq-eqb}
+use borrow.Author.Tests.{eqb-true, eqb-false, eq-eqb, not-false}
 use Rattle.common.specs.Grounds.{Ground, ground, NoneHolds}
 use Rattle.common.proofs.Choice.{by-cases}
-use Rattle.common.proofs.Each.{each-at, done, _also_}
 use Rattle.remote.specs.declared.Received.{Received}
 use Rattle.remote.specs.declared.Received.the-variants.{Key, NoKey}
 use Rattle.remote.specs.Frame.{keyOf}
@@ -21,16 +20,18 @@ use Rattle.command.proofs.Accepted.{none-awake, none-holds}
 use Rattle.controller.specs.declared.Core.{Core}
 use Rattle.controller.specs.Sound.{Sound}
 use Rattle.controller.specs.Remote.{keyed}
-use Rattle.properties.proofs.Sound.{sound-ticked, sound-sampled, sound-keyed, sound-readySet, sound-wakeUpSet, sound-poweredUp}
+use Rattle.properties.proofs.Sound.{sound-ticked, sound-sampled, sound-keyed, sound-readySet, sound-wakeUpSet}
 use Rattle.panel.specs.declared.Panel.{Panel}
 use Rattle.panel.specs.PowerUp.{panelPoweredUp}
 use Rattle.panel.specs.Execute.{writesNoCalendar}
+use Rattle.image.specs.Layout.{Bytes}
 use Rattle.image.specs.Image.{decoded, encoded}
 use Rattle.image.specs.Sound.{SoundPanel}
 use Rattle.image.proofs.Bytes.{encoded-bytes}
 use Rattle.image.proofs.Laws.{decode-encode}
+use Rattle.validity.specs.Valid.{isValid}
 use Rattle.validity.proofs.Laws.{sound, encode-decode, valid-encoded}
-use Rattle.supply.proofs.Sound.{sound-returned}
+use Rattle.supply.proofs.Sound.{sound-powered, sound-returned}
 use Rattle.stled325.specs.Calls.{high, keyedBy}
 use Rattle.demands.specs.Event.{Event, powerUp, tick, sample, frame, ready, wakeUp, command, show, lines, supplyReturn, Given, panelAfter, imageAfter, after, Valid}
 use Rattle.demands.proofs.Refusals.{refused-untouched, accepted-leaves, grounds-exact}
@@ -43,6 +44,24 @@ valid-sound {l} v = sound l (v .valid) (v .bytes)
 
 pub sound-valid : {p : Panel} → SoundPanel p → Valid (encoded p)
 sound-valid {p} s = record { bytes = encoded-bytes p s; valid = valid-encoded p s }
+
+-- ---- An accepted event is power-up, or its image was valid
+
+module _ (l : List ℕ) (small : Bytes l) where
+  was-valid : not (isValid l) ≡ false → Valid l
+  was-valid n = record { bytes = small; valid = not-false (isValid l) n }
+
+  pub power-up-or-valid : (e : Event) (o : List ℕ) → after e l o .number ≡ 0 → (e ≡ powerUp) ⊎ Valid l
+  power-up-or-valid powerUp o a = inl refl
+  power-up-or-valid tick o a = inr (was-valid (grounds-exact tick l o .groundless a .0))
+  power-up-or-valid (sample n) o a = inr (was-valid (grounds-exact (sample n) l o .groundless a .0))
+  power-up-or-valid (frame n) o a = inr (was-valid (grounds-exact (frame n) l o .groundless a .0))
+  power-up-or-valid (ready level) o a = inr (was-valid (grounds-exact (ready level) l o .groundless a .0))
+  power-up-or-valid (wakeUp level) o a = inr (was-valid (grounds-exact (wakeUp level) l o .groundless a .0))
+  power-up-or-valid (command s) o a = inr (was-valid (grounds-exact (command s) l o .groundless a .0))
+  power-up-or-valid show o a = inr (was-valid (grounds-exact show l o .groundless a .0))
+  power-up-or-valid lines o a = inr (was-valid (grounds-exact lines l o .groundless a .0))
+  power-up-or-valid (supplyReturn n) o a = inr (was-valid (grounds-exact (supplyReturn n) l o .groundless a .0))
 
 -- ---- What an accepted command has
 
@@ -79,20 +98,6 @@ sound-keyedBy : {c : Core} → Sound 16 c → (r : Received) → Ours r → Soun
 sound-keyedBy {c} h (Key a k) u = subst (λ (x : ℕ). Sound 16 (keyed c x k)) (sym (eqb-true a 0 (u .to-us))) (sound-keyed h k (u .command))
 sound-keyedBy h NoKey u = h
 
-pub sound-powered-up : SoundPanel panelPoweredUp
-sound-powered-up =
-    record {
-      core = sound-poweredUp 16;
-      display =
-          record {
-            some = omega arith;
-            most = omega arith;
-            control = omega arith;
-            sized = refl;
-            bytes = each-at (λ (x : ℕ). x < 256) (0 ∷ 0 ∷ 0 ∷ 0 ∷ 0 ∷ []) 0 (omega arith also omega arith also omega arith also omega arith also omega arith also done) (omega arith);
-          };
-    }
-
 module _ {l : List ℕ} (v : Valid l) where
   abbrev h : SoundPanel (decoded l)
   h = valid-sound v
@@ -102,7 +107,7 @@ module _ {l : List ℕ} (v : Valid l) where
 
   -- the panel after an accepted event is sound
   pub sound-after : (e : Event) → Given e → (o : List ℕ) → after e l o .number ≡ 0 → SoundPanel (panelAfter e (decoded l))
-  sound-after powerUp g o a = sound-powered-up
+  sound-after powerUp g o a = sound-powered
   sound-after tick g o a = on-core _ (sound-ticked (h .core))
   sound-after (sample n) g o a = on-core _ (sound-sampled (h .core) n g)
   sound-after (frame n) g o a = on-core _ (sound-keyedBy (h .core) (keyOf (decoded l .core .setup .protocol) n) (key-ours (decoded l .core .setup .protocol) n))
@@ -147,7 +152,10 @@ module _ {l : List ℕ} (v : Valid l) where
 
 -- ---- POWER-UP makes one of any 64 bytes
 
+pub powered-panel : (l o : List ℕ) → after powerUp l o .number ≡ 0 → decoded (after powerUp l o .image) ≡ panelPoweredUp
+powered-panel l o a = ap decoded (accepted-leaves powerUp l o a .0) ∙ decode-encode panelPoweredUp sound-powered
+
 pub power-up-valid : (l o : List ℕ) → length l ≡ 64 → (after powerUp l o .number ≡ 0) × Valid (after powerUp l o .image)
 power-up-valid l o n =
     let a = grounds-exact powerUp l o .accepted ((λ i. not (eq-eqb (length l) 64 n i)), tt) in
-    (a, subst Valid (sym (accepted-leaves powerUp l o a .0)) (sound-valid sound-powered-up))
+    (a, subst Valid (sym (accepted-leaves powerUp l o a .0)) (sound-valid sound-powered))

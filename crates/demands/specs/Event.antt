@@ -16,7 +16,7 @@ use Rattle.panel.specs.PowerUp.{panelPoweredUp}
 use Rattle.panel.specs.Read.{outputAfter}
 use Rattle.panel.specs.Execute.{executed}
 use Rattle.supply.specs.Return.{panelReturned}
-use Rattle.image.specs.Layout.{byteAt}
+use Rattle.image.specs.Layout.{Bytes}
 use Rattle.image.specs.Image.{decoded, encoded}
 use Rattle.validity.specs.Valid.{isValid}
 use Rattle.events.specs.Show.{shownIn}
@@ -113,7 +113,7 @@ after e l o = decided (groundsOf e l o) l o (imageAfter e l) (replyAfter e l o)
 
 -- an image of bytes that is valid
 pub record Valid (l : List ℕ) : Type 0 where
-  pub bytes : (i : ℕ) → byteAt l i < 256
+  pub bytes : Bytes l
   pub valid : isValid l ≡ true
 
 -- STBY in an image

@@ -1,4 +1,5 @@
--- What an accepted command leaves (document 01, "Commands"): its number, the image and the output; ground 9 leaves both as they were.
+-- What a command that passed grounds 1 to 8 leaves (document 01, "Commands"): its number, the image and the output; ground 9 leaves
+-- both as they were.
 use Prim.Native.Nat.{ℕ}
 use mathlib.Core.Bool.{cond}
 use mathlib.Core.List.{List}

@@ -107,7 +107,7 @@ pub fn protocol(image: [u8; 64]) -> u8
     p.core.setup.protocol
 }
 
-// The lines.
+// READY, WAKE_UP, STBY and the guard.
 pub fn power(image: [u8; 64]) -> Power
     ensures { λ r. ⌜ r ≡ decoded image .core .power ⌝ }
 {
@@ -144,7 +144,8 @@ fn shown_by(p: Panel) -> [u8; 5]
     display::show(registers, core.setup.configuration, core.power.stby, d)
 }
 
-// Serves an accepted command, whose bytes are s: the reply is of the panel as it was. A write that leaves no valid calendar is 9.
+// Serves a command that passed grounds 1 to 8, whose bytes are s: the reply is of the panel as it was. A write that leaves no valid
+// calendar is 9.
 pub fn serve(image: &mut [u8], k: Command, s: &[u8], out: &mut [u8]) -> u32
     requires { ⌜ length (now image) ≡ 64 ⌝ }
     ensures { λ r. ⌜ r ≡ numberLeft (now (image .entry)) k (now (s .entry)) ⌝ }

@@ -18,7 +18,7 @@ use Rattle.controller.specs.Sound.{knownProtocol, Sound}
 use Rattle.controller.specs.State.{rtc, power, keys, sixteenths}
 use Rattle.panel.specs.declared.Panel.{Panel}
 use Rattle.image.specs.Layout as at
-use Rattle.image.specs.Layout.{SIZE, byteAt, wordAt, low, high}
+use Rattle.image.specs.Layout.{SIZE, byteAt, Bytes, wordAt, low, high}
 use Rattle.image.specs.Image.{rtcIn, powerIn, setupIn, keysIn, displayIn, decoded, pinsByte, statusBytes, wordsOf, encoded}
 use Rattle.image.specs.Sound.{SoundPanel}
 use Rattle.image.proofs.Numbers.{low-back, high-back, word-back, setup-back, protocol-back, value-back, pins-back, bits-back, byte-back}
@@ -28,7 +28,7 @@ use Rattle.image.proofs.Numbers.{low-back, high-back, word-back, setup-
 -- an image of which the state keeps every bit
 pub record Whole (l : List ℕ) : Type 0 where
   pub sized : length l ≡ SIZE
-  pub bytes : (i : ℕ) → byteAt l i < 256
+  pub bytes : Bytes l
   pub pins : byteAt l at.PINS < 8
   pub setup : byteAt l at.PROTOCOL < 128
   pub zeros : spell at.TAIL 20 l ≡ replicate 20 0

@@ -1,5 +1,5 @@
 -- Where things stand in the image (document 01, "The image": the table).
-use Prim.Native.Nat.{ℕ, _+_, _*_, _/_, _%_}
+use Prim.Native.Nat.{ℕ, _+_, _*_, _/_, _%_, _<_}
 use mathlib.Core.List.{List, [], _∷_}
 use lib.ListN.{getD}
 
@@ -83,6 +83,10 @@ STBY = 4
 
 abbrev pub byteAt : List ℕ → ℕ → ℕ
 byteAt l at = getD l at 0
+
+-- every number is a byte: what a lent image always is, valid or not
+abbrev pub Bytes : List ℕ → Type 0
+Bytes l = (i : ℕ) → byteAt l i < 256
 
 -- the number in two bytes, low byte first
 abbrev pub wordAt : List ℕ → ℕ → ℕ

@@ -11,7 +11,7 @@ use lib.Pow.{pow-pos}
 use borrow.Author.Tests.{ltb-true}
 use Rattle.common.proofs.Choice.{of-cond}
 use Rattle.common.proofs.Each.{each-at, done, _also_}
-use Rattle.calendar.specs.Date.{leap, monthLength}
+use Rattle.calendar.specs.Date.{monthLength}
 use Rattle.calendar.specs.Carry.{next}
 use Rattle.alarm.specs.Match.{matches}
 use Rattle.units.specs.declared.Sixteenths.{Sixteenths}
@@ -149,7 +149,7 @@ module _ {w : ℕ} {c : Core} (h : Sound w c) where
 -- ---- Power-up
 
 pub sound-poweredUp : (w : ℕ) → Sound w poweredUp
-unfolding validCalendar clockOf monthLength leap
+unfolding validCalendar clockOf monthLength
 sound-poweredUp w =
     record {
       rtc = record {

@@ -66,7 +66,7 @@ stopped rs = bitSet (at rs SECONDS) 128
 abbrev pub MD-H : List ℕ → Bool
 MD-H rs = bitSet (at rs HOURS) 128
 
--- 03h b6: the face shows minutes and seconds
+-- 03h b6: with MD_H clear the face shows minutes and seconds
 abbrev pub M-MS : List ℕ → Bool
 M-MS rs = bitSet (at rs HOURS) 64
 

@@ -2,7 +2,7 @@
 ghost use mathlib.Core.Path.{_≡_};
 ghost use Rattle.remote.specs.Frame.{addressed, necKey, rc5Key, sentBy, keyOf, refusalOf};
 
-// The protocols that are keys at all, as configuration byte 21 names them.
+// The protocols of which a frame can be a key, as b6..b4 of image byte 21 hold them.
 const RC5: u8 = 2;
 
 const NEC: u8 = 4;

@@ -20,7 +20,7 @@ use Rattle.controller.specs.State.{ALARM-FLAG}
 use Rattle.properties.proofs.SoundParts.{valid-clock-of}
 use Rattle.panel.specs.declared.Panel.{Panel}
 use Rattle.image.specs.Image.{registersIn, decoded}
-use Rattle.image.specs.Layout.{FLAGS, byteAt}
+use Rattle.image.specs.Layout.{FLAGS, byteAt, Bytes}
 use Rattle.validity.specs.Valid.{isValid}
 use Rattle.validity.proofs.Laws.{sound}
 use Rattle.supply.specs.Return.{LIMIT, registersReturned, matchCounts, flagsReturned}
@@ -28,7 +28,7 @@ use Rattle.supply.proofs.Returns.{clock-stopped, clock-running, flag-returned}
 use Rattle.stled325.specs.Outcome.{outcome}
 use Rattle.stled325.specs.Calls.{supplyGrounds, imageReturned, supplyReturnCall}
 use Rattle.series.specs.Series.{imageAfter, numbers, noted, within, total, someAccepted, plainClock}
-use Rattle.series.specs.Demand.{clockIn, stoppedIn, flagIn, alarmReached, Bytes, Demand3}
+use Rattle.series.specs.Demand.{clockIn, stoppedIn, flagIn, alarmReached, Demand3}
 use Rattle.series.proofs.Series.{call-done, within-accepted, returned-valid, holds, none-total, after-is, after-bad, numbers-bad, numbers-good}
 
 -- ---- the plain clock over a series

@@ -20,7 +20,7 @@ use Rattle.controller.specs.State.{ALARM-FLAG}
 use Rattle.properties.proofs.SoundParts.{valid-clock-of}
 use Rattle.panel.specs.declared.Panel.{Panel}
 use Rattle.image.specs.Image.{registersIn, decoded, encoded}
-use Rattle.image.specs.Layout.{FLAGS, byteAt}
+use Rattle.image.specs.Layout.{Bytes}
 use Rattle.image.specs.Sound.{SoundPanel}
 use Rattle.image.proofs.Laws.{decode-encode}
 use Rattle.image.proofs.Bytes.{encoded-length, encoded-bytes}
@@ -33,7 +33,7 @@ use Rattle.stled325.specs.Outcome.{Outcome, outcome}
 use Rattle.stled325.specs.Calls.{supplyGrounds, imageReturned, supplyReturnCall}
 use Rattle.stled325.proofs.Decided.{accepted, refused, decided-number, first-holds, first-passed, not-valid}
 use Rattle.series.specs.Series.{imageAfter, numbers, within, total, someAccepted, plainClock}
-use Rattle.series.specs.Demand.{clockIn, stoppedIn, flagIn, alarmReached, Bytes, Demand3}
+use Rattle.series.specs.Demand.{clockIn, stoppedIn, flagIn, alarmReached, Demand3}
 
 -- ---- one return by its cases
 module _ (l : List ℕ) (n : ℕ) where

@@ -1,5 +1,6 @@
--- Demand 3, of a series of supply returns after ns from the image l, which leaves the image after, and its numbers in answers, which held before.
-use Prim.Native.Nat.{ℕ, _+_, _%_, _≤_, _<_}
+-- Demand 3: what a series of supply returns does, one return for each count of seconds in ns, from the image l to the image after.
+-- Each return writes its number to its place in a list, which holds before at the start and answers at the end.
+use Prim.Native.Nat.{ℕ, _+_, _%_, _≤_}
 use mathlib.Core.Path.{_≡_}
 use mathlib.Core.Bool.{Bool, true, false, not, _&&_, _||_}
 use mathlib.Core.List.{List, [], map}
@@ -36,10 +37,6 @@ flagIn l = bitSet (byteAt l FLAGS) ALARM-FLAG
 abbrev pub alarmReached : List ℕ → ℕ → Bool
 alarmReached l n =
     not (stoppedIn l) && (AFE (registersIn l) && ABE (registersIn l)) && anyReached (matches (alarmOf (registersIn l))) (clockIn l) n
-
--- what a lent image always is
-abbrev pub Bytes : List ℕ → Type 0
-Bytes l = (i : ℕ) → byteAt l i < 256
 
 pub record Demand3 (l ns before after answers : List ℕ) : Type 0 where
   -- each return is made on the image that the one before it left, and its number is answered

@@ -7,7 +7,7 @@ use native.Mathlib.Omega.{arith}
 use lib.Dec.{eqb}
 use borrow.Author.Tests.{eq-eqb, ne-eqb, eqb-true}
 use Rattle.common.specs.Grounds.{Ground, ground, firstGround, NoneHolds}
-use Rattle.common.proofs.Choice.{on-true, on-false, by-cases}
+use Rattle.common.proofs.Choice.{on-true, on-false, of-cond}
 use Rattle.common.proofs.Grounds.{ground-none}
 use Rattle.validity.specs.Valid.{isValid}
 use Rattle.stled325.specs.Outcome.{Outcome, outcome, decided, invalid}
@@ -28,9 +28,8 @@ module _ (gs : List Ground) (l o m q : List ℕ) where
   pub decided-number : decided gs l o m q .number ≡ firstGround gs
   unfolding decided
   decided-number =
-      by-cases (decided gs l o m q .number ≡ firstGround gs) (eqb (firstGround gs) 0)
-      (λ t. ap (λ (x : Outcome). x .number) (sym (on-true (outcome 0 m q) (outcome (firstGround gs) l o) t)) ∙ sym (eqb-true (firstGround gs) 0 t))
-      (λ f. ap (λ (x : Outcome). x .number) (sym (on-false (outcome 0 m q) (outcome (firstGround gs) l o) f)))
+      of-cond (λ (x : Outcome). x .number ≡ firstGround gs) (eqb (firstGround gs) 0) (outcome 0 m q) (outcome (firstGround gs) l o)
+      (λ e. sym (eqb-true (firstGround gs) 0 e)) (λ e. refl)
 
 -- the first ground of a list holds
 pub first-holds : (b : Bool) (n : ℕ) (gs : List Ground) → b ≡ true → n ≡ firstGround (ground n b ∷ gs)

@@ -15,7 +15,7 @@ use Rattle.timekeeper.specs.Clock.{validCalendar}
 use Rattle.controller.specs.Sound.{Sound, SoundRtc, SoundSetup, SoundPower, SoundKeys, SoundRemote}
 use Rattle.panel.specs.declared.Panel.{Panel}
 use Rattle.image.specs.Layout as at
-use Rattle.image.specs.Layout.{SIZE, TAIL, byteAt, wordAt}
+use Rattle.image.specs.Layout.{SIZE, TAIL, byteAt, Bytes, wordAt}
 use Rattle.image.specs.Image.{rtcIn, powerIn, setupIn, keysIn, remoteIn, coreIn, displayIn, decoded, setupByte, encoded}
 use Rattle.image.specs.Sound.{SoundDisplay, SoundPanel}
 use Rattle.image.proofs.Numbers.{pins-small}
@@ -51,7 +51,7 @@ module _ (l : List ℕ) (h : isValid l ≡ true) where
   pub valid-length : length l ≡ SIZE
   valid-length = eqb-true (length l) SIZE (test 0)
 
-  module _ (small : (i : ℕ) → byteAt l i < 256) where
+  module _ (small : Bytes l) where
     rtc-sound : SoundRtc (rtcIn l)
     rtc-sound =
         record {

@@ -1,4 +1,4 @@
--- `alarm::any_match` meets its contract: any second matches exactly if the first that does is among them.
+-- `alarm::any_match` meets its contract: any second matches exactly if the first that does is among them. Assumes nothing.
 use borrow.Author.Needs.{needs}
 use Rattle.alarm.specs.Match.{matches}
 use Rattle.alarm.proofs.Reached.{any-first}

@@ -1,4 +1,4 @@
--- `alarm::day_fits` meets its contract.
+-- `alarm::day_fits` meets its contract. Assumes nothing.
 use mathlib.Core.Bool.{_&&_}
 use borrow.Author.Needs.{needs}
 use Rattle.alarm.specs.Match.{dayFits}

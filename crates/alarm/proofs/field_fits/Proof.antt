@@ -1,3 +1,4 @@
+-- `alarm::field_fits` meets its contract. Assumes nothing.
 use mathlib.Core.Path.{refl}
 use Rattle.alarm.specs.Match.{fits}
 use Rattle.alarm.proofs.field_fits.Statement.{statement}

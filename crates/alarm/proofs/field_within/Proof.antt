@@ -1,3 +1,4 @@
+-- `alarm::field_within` meets its contract. Assumes nothing.
 use mathlib.Core.Path.{refl}
 use Rattle.alarm.specs.Match.{inRange}
 use Rattle.alarm.proofs.field_within.Statement.{statement}

@@ -1,4 +1,4 @@
--- `alarm::first_match` meets its contract: an impossible field is matched by no second reached.
+-- `alarm::first_match` meets its contract: an impossible field is matched by no second reached. Assumes nothing.
 use mathlib.Core.Path.{_≡_, sym, _∙_}
 use mathlib.Core.Bool.{true, false}
 use Prim.Native.Nat.{ℕ, _+_}

@@ -1,4 +1,4 @@
--- `alarm::first_on_day` meets its contract.
+-- `alarm::first_on_day` meets its contract. Assumes nothing.
 use mathlib.Core.Path.{_≡_, sym, _∙_}
 use mathlib.Core.Bool.{Bool, true, false, not}
 use Prim.Native.Nat.{ℕ, _-_, _≤_}

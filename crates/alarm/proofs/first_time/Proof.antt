@@ -1,4 +1,4 @@
--- `alarm::first_time` meets its contract. The invariant: nothing fits from t up to u.
+-- `alarm::first_time` meets its contract. The invariant: nothing fits from t up to u. Assumes nothing.
 use mathlib.Core.Path.{_≡_, sym, subst, _∙_}
 use mathlib.Core.Bool.{Bool, true, false}
 use Prim.Native.Nat.{ℕ, _-_, _≤_, _<_}

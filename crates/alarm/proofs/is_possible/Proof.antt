@@ -1,4 +1,4 @@
--- `alarm::is_possible` meets its contract.
+-- `alarm::is_possible` meets its contract. Assumes nothing.
 use mathlib.Core.Bool.{_&&_}
 use borrow.Author.Needs.{needs}
 use Rattle.alarm.specs.Match.{possible}

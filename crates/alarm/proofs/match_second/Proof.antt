@@ -1,4 +1,4 @@
--- `alarm::match_second` meets its contract.
+-- `alarm::match_second` meets its contract. Assumes nothing.
 use mathlib.Core.Bool.{_&&_}
 use borrow.Author.Needs.{needs}
 use Rattle.alarm.specs.Match.{matches}

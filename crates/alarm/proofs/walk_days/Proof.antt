@@ -1,5 +1,5 @@
 -- `alarm::walk_days` meets its contract. The invariant: the day stands base seconds behind the first midnight, and nothing
--- matches from the start up to its second `from`.
+-- matches from the start up to its second `from`. Assumes nothing.
 use mathlib.Core.Path.{_≡_, refl, sym, ap, subst, _∙_}
 use mathlib.Core.Bool.{Bool, true, false}
 use Prim.Native.Nat.{ℕ, _+_, _-_, _≤_, _<_, min}

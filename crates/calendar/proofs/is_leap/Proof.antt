@@ -1,4 +1,4 @@
--- `calendar::is_leap` meets its contract: the century does not change the two digits.
+-- `calendar::is_leap` meets its contract: the century does not change the two digits. Assumes nothing.
 use mathlib.Core.Path.{ap}
 use Prim.Native.Nat.{ℕ, _+_, _*_, _%_}
 use mathlib.Core.Path.{_≡_}

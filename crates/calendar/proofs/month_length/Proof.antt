@@ -1,4 +1,4 @@
--- `calendar::month_length` meets its contract, month by month.
+-- `calendar::month_length` meets its contract, month by month. Assumes nothing.
 use mathlib.Core.Path.{_∙_}
 use mathlib.Core.Logic.{⊎-elim, inl, inr}
 use borrow.Author.Needs.{needs}

@@ -1,4 +1,4 @@
--- `calendar::next_day` meets its contract: a law for each way out of the carry.
+-- `calendar::next_day` meets its contract: a law for each way out of the carry. Assumes nothing.
 use mathlib.Core.Path.{_≡_, ap, _∙_}
 use mathlib.Core.Bool.{Bool}
 use Prim.Native.Nat.{ℕ, _+_, _*_, _≤_, _<_}

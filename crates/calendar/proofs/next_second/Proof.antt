@@ -1,4 +1,4 @@
--- `calendar::next_second` meets its contract: a law for each way out of the carry.
+-- `calendar::next_second` meets its contract: a law for each way out of the carry. Assumes nothing.
 use mathlib.Core.Path.{_≡_}
 use Prim.Native.Nat.{ℕ, _+_, _≤_, _<_}
 use borrow.Author.Needs.{needs}

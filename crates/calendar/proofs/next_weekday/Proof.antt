@@ -1,4 +1,4 @@
--- `calendar::next_weekday` meets its contract.
+-- `calendar::next_weekday` meets its contract. Assumes nothing.
 use borrow.Author.Needs.{needs}
 use borrow.Author.Tests.{lt-ltb, le-ltb}
 use Rattle.calendar.proofs.next_weekday.Statement.{statement}

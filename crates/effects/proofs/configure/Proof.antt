@@ -1,4 +1,4 @@
--- `effects::configure` meets its contract: the guard loads by the conversion.
+-- `effects::configure` meets its contract: the guard loads by the conversion. Assumes nothing.
 use mathlib.Core.Path.{_≡_, ap}
 use Prim.Native.Nat.{ℕ, _%_}
 use borrow.Author.Needs.{needs}

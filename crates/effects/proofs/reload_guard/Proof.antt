@@ -1,4 +1,4 @@
--- `effects::reload_guard` meets its contract.
+-- `effects::reload_guard` meets its contract. Assumes nothing.
 use mathlib.Core.Path.{_≡_, ap, _∙_}
 use borrow.Author.Needs.{needs}
 use borrow.Author.Tests.{eq-eqb, ne-eqb}

@@ -1,4 +1,4 @@
--- `effects::touches_calendar` meets its contract.
+-- `effects::touches_calendar` meets its contract. Assumes nothing.
 use mathlib.Core.Path.{_≡_}
 use mathlib.Core.Bool.{Bool, _||_}
 use Prim.Native.Nat.{ℕ}

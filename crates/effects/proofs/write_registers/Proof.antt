@@ -1,4 +1,4 @@
--- `effects::write_registers` meets its contract: all of the write, or nothing and 9.
+-- `effects::write_registers` meets its contract: all of the write, or nothing and 9. Assumes nothing.
 use mathlib.Core.Path.{_≡_, sym, ap, _∙_}
 use mathlib.Core.Bool.{Bool, true, false, cond, not}
 use mathlib.Core.List.{List}

@@ -1,4 +1,4 @@
--- `events::interrupt` meets its contract.
+-- `events::interrupt` meets its contract. Assumes nothing.
 use mathlib.Core.Path.{ap}
 use borrow.Author.Needs.{needs}
 use Rattle.panel.specs.declared.Panel.{Panel}

@@ -1,4 +1,4 @@
--- `events::panel_in` meets its contract.
+-- `events::panel_in` meets its contract. Assumes nothing.
 use borrow.Author.Needs.{needs}
 use Rattle.events.proofs.Laws.{in-image}
 use Rattle.events.proofs.panel_in.Statement.{statement}

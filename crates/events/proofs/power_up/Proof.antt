@@ -1,4 +1,4 @@
--- `events::power_up` meets its contract.
+-- `events::power_up` meets its contract. Assumes nothing.
 use borrow.Author.Needs.{needs}
 use Rattle.events.proofs.Laws.{up-stored}
 use Rattle.events.proofs.power_up.Statement.{statement}

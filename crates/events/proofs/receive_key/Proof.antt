@@ -1,4 +1,4 @@
--- `events::receive_key` meets its contract.
+-- `events::receive_key` meets its contract. Assumes nothing.
 use borrow.Author.Needs.{needs}
 use Rattle.events.proofs.Laws.{event-stored}
 use Rattle.events.proofs.receive_key.Statement.{statement}

@@ -1,4 +1,4 @@
--- `events::return_supply` meets its contract.
+-- `events::return_supply` meets its contract. Assumes nothing.
 use mathlib.Core.Path.{sym, subst}
 use borrow.Author.Needs.{needs}
 use Rattle.calendar.specs.Clock.{Valid}

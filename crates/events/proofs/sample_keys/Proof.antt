@@ -1,4 +1,4 @@
--- `events::sample_keys` meets its contract.
+-- `events::sample_keys` meets its contract. Assumes nothing.
 use borrow.Author.Needs.{needs}
 use Rattle.events.proofs.Laws.{event-stored}
 use Rattle.events.proofs.sample_keys.Statement.{statement}

@@ -1,4 +1,4 @@
--- `events::serve` meets its contract.
+-- `events::serve` meets its contract. Assumes nothing.
 use borrow.Author.Needs.{needs}
 use Rattle.events.proofs.Laws.{serve-refused, serve-done}
 use Rattle.events.proofs.serve.Statement.{statement}

@@ -1,4 +1,4 @@
--- `events::set_ready` meets its contract.
+-- `events::set_ready` meets its contract. Assumes nothing.
 use borrow.Author.Needs.{needs}
 use Rattle.events.proofs.Laws.{event-stored}
 use Rattle.events.proofs.set_ready.Statement.{statement}

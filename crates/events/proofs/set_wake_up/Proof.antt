@@ -1,4 +1,4 @@
--- `events::set_wake_up` meets its contract.
+-- `events::set_wake_up` meets its contract. Assumes nothing.
 use borrow.Author.Needs.{needs}
 use Rattle.events.proofs.Laws.{event-stored}
 use Rattle.events.proofs.set_wake_up.Statement.{statement}

@@ -1,4 +1,4 @@
--- `events::show` meets its contract.
+-- `events::show` meets its contract. Assumes nothing.
 use borrow.Author.Needs.{needs}
 use Rattle.events.proofs.Laws.{show-copied}
 use Rattle.events.proofs.show.Statement.{statement}

@@ -1,4 +1,4 @@
--- `events::store` meets its contract.
+-- `events::store` meets its contract. Assumes nothing.
 use borrow.Author.Needs.{needs}
 use Rattle.events.proofs.Laws.{as-image}
 use Rattle.events.proofs.store.Statement.{statement}

@@ -1,4 +1,4 @@
--- `events::tick` meets its contract.
+-- `events::tick` meets its contract. Assumes nothing.
 use borrow.Author.Needs.{needs}
 use Rattle.events.proofs.Laws.{event-stored}
 use Rattle.events.proofs.tick.Statement.{statement}

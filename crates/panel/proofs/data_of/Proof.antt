@@ -1,4 +1,4 @@
--- `panel::data_of` meets its contract.
+-- `panel::data_of` meets its contract. Assumes nothing.
 use mathlib.Core.Path.{_≡_, refl, _∙_}
 use mathlib.Core.List.{List}
 use Prim.Native.Nat.{ℕ, _-_, _≤_, min}

@@ -1,4 +1,4 @@
--- `panel::digit_after` meets its contract.
+-- `panel::digit_after` meets its contract. Assumes nothing.
 use mathlib.Core.Path.{_≡_, ap, _∙_}
 use mathlib.Core.Bool.{Bool, true, false, _&&_, and-false}
 use mathlib.Core.List.{List}

@@ -1,4 +1,4 @@
--- `panel::reply_registers` meets its contract.
+-- `panel::reply_registers` meets its contract. Assumes nothing.
 use mathlib.Core.Path.{_≡_, sym, ap, _∙_}
 use mathlib.Core.List.{List}
 use Prim.Native.Nat.{ℕ, _-_, min}

@@ -1,4 +1,4 @@
--- `series::note` meets its contract: past the end nothing is written.
+-- `series::note` meets its contract: past the end nothing is written. Assumes nothing.
 use mathlib.Core.Path.{_≡_, sym}
 use mathlib.Core.List.{List}
 use Prim.Native.Nat.{ℕ, _≤_}

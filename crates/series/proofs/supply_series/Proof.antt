@@ -1,4 +1,5 @@
--- `series::supply_series` meets its contract. The invariant: after i returns the image and the numbers are those of the series of the first i.
+-- `series::supply_series` meets its contract. The invariant: after i returns the image and the numbers are those of the series of the
+-- first i. Assumes nothing.
 use Prim.Native.Nat.{ℕ, suc, _+_, _-_, _≤_, _<_}
 use mathlib.Core.Path.{_≡_, refl, sym, ap, subst, _∙_}
 use mathlib.Core.List.{List, [], _∷_, _++_}
@@ -7,10 +8,11 @@ use native.Mathlib.Numerals.{add-one}
 use lib.ListN.{length, getD, take, set, length-set}
 use lib.Seq.{take-suc, take-all, length-take-le}
 use borrow.Author.Needs.{needs}
+use Rattle.image.specs.Layout.{Bytes}
 use Rattle.stled325.specs.Outcome.{Outcome, outcome}
 use Rattle.stled325.specs.Calls.{supplyReturnCall}
 use Rattle.series.specs.Series.{imageAfter, numbers, noted}
-use Rattle.series.specs.Demand.{Bytes, Demand3}
+use Rattle.series.specs.Demand.{Demand3}
 use Rattle.series.proofs.Series.{length-call}
 use Rattle.series.proofs.Demand.{series}
 use Rattle.series.proofs.supply_series.Statement.{statement}

@@ -1,4 +1,4 @@
--- `stled325::stled325_command` meets its contract.
+-- `stled325::stled325_command` meets its contract. Assumes nothing.
 use borrow.Author.Needs.{needs}
 use Rattle.stled325.proofs.Calls.{sized, call-refused}
 use Rattle.stled325.proofs.Commands.{decode-refused, command-done}

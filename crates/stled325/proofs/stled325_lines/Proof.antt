@@ -1,4 +1,4 @@
--- `stled325::stled325_lines` meets its contract.
+-- `stled325::stled325_lines` meets its contract. Assumes nothing.
 use borrow.Author.Needs.{needs}
 use Rattle.stled325.proofs.Calls.{sized, call-refused, view-refused, lines-done}
 use Rattle.stled325.proofs.stled325_lines.Statement.{statement}

@@ -1,4 +1,4 @@
--- `stled325::stled325_power_up` meets its contract.
+-- `stled325::stled325_power_up` meets its contract. Assumes nothing.
 use borrow.Author.Needs.{needs}
 use Rattle.stled325.proofs.Calls.{up-short, up-done}
 use Rattle.stled325.proofs.stled325_power_up.Statement.{statement}

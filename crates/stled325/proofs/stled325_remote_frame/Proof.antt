@@ -1,4 +1,4 @@
--- `stled325::stled325_remote_frame` meets its contract.
+-- `stled325::stled325_remote_frame` meets its contract. Assumes nothing.
 use borrow.Author.Needs.{needs}
 use Rattle.stled325.proofs.Calls.{sized, call-refused, frame-refused, frame-done}
 use Rattle.stled325.proofs.stled325_remote_frame.Statement.{statement}

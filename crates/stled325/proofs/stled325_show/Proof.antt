@@ -1,4 +1,4 @@
--- `stled325::stled325_show` meets its contract.
+-- `stled325::stled325_show` meets its contract. Assumes nothing.
 use borrow.Author.Needs.{needs}
 use Rattle.stled325.proofs.Calls.{sized, call-refused, view-refused, show-done}
 use Rattle.stled325.proofs.stled325_show.Statement.{statement}

@@ -1,4 +1,4 @@
--- `stled325::stled325_supply_return` meets its contract.
+-- `stled325::stled325_supply_return` meets its contract. Assumes nothing.
 use native.Mathlib.Omega.{arith}
 use borrow.Author.Needs.{needs}
 use Rattle.stled325.proofs.Calls.{call-refused, return-refused, return-allowed, return-done}

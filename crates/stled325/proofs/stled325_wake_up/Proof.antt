@@ -1,4 +1,4 @@
--- `stled325::stled325_wake_up` meets its contract.
+-- `stled325::stled325_wake_up` meets its contract. Assumes nothing.
 use borrow.Author.Needs.{needs}
 use Rattle.stled325.proofs.Calls.{sized, call-refused, event-done}
 use Rattle.stled325.proofs.stled325_wake_up.Statement.{statement}

@@ -1,3 +1,5 @@
+-- `vectors::run` ends and stays within its memory. The invariant: at is at most one past the script, and the images keep
+-- their length. Assumes the kit's contract of `write`.
 use Prim.Native.Nat.{_≤_, _+_, _-_}
 use mathlib.Core.Path.{_≡_}
 use lib.ListN.{length}

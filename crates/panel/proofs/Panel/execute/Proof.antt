@@ -1,4 +1,4 @@
--- `panel::Panel::execute` meets its contract: a law for each command.
+-- `panel::Panel::execute` meets its contract: a law for each command. Assumes nothing.
 use mathlib.Core.Path.{_≡_, refl, sym, ap, _∙_}
 use mathlib.Core.List.{List}
 use Prim.Native.Nat.{ℕ}

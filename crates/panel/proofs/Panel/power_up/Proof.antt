@@ -1,4 +1,4 @@
--- `panel::Panel::power_up` meets its contract.
+-- `panel::Panel::power_up` meets its contract. Assumes nothing.
 use mathlib.Core.Path.{_≡_, ap}
 use mathlib.Core.List.{[], _∷_}
 use borrow.Author.Needs.{needs}

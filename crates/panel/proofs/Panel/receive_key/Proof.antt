@@ -1,4 +1,4 @@
--- `panel::Panel::receive_key` meets its contract.
+-- `panel::Panel::receive_key` meets its contract. Assumes nothing.
 use borrow.Author.Needs.{needs}
 use Rattle.panel.proofs.Events.{event-on}
 use Rattle.panel.proofs.Panel.receive_key.Statement.{statement}

@@ -1,4 +1,4 @@
--- `panel::Panel::reply` meets its contract.
+-- `panel::Panel::reply` meets its contract. Assumes nothing.
 use denote.Ref.{now}
 use borrow.Author.Needs.{needs}
 use Rattle.panel.proofs.Output.{replies-keys, replies-remote, replies-interrupts, replies-registers, silent}

@@ -1,4 +1,4 @@
--- `panel::Panel::sample_keys` meets its contract.
+-- `panel::Panel::sample_keys` meets its contract. Assumes nothing.
 use borrow.Author.Needs.{needs}
 use Rattle.panel.proofs.Events.{event-on}
 use Rattle.panel.proofs.Panel.sample_keys.Statement.{statement}

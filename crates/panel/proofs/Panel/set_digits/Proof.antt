@@ -1,4 +1,4 @@
--- `panel::Panel::set_digits` meets its contract.
+-- `panel::Panel::set_digits` meets its contract. Assumes nothing.
 use mathlib.Core.Path.{_≡_}
 use Prim.Native.Nat.{ℕ, _%_}
 use borrow.Author.Needs.{needs}

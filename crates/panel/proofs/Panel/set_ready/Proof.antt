@@ -1,4 +1,4 @@
--- `panel::Panel::set_ready` meets its contract.
+-- `panel::Panel::set_ready` meets its contract. Assumes nothing.
 use borrow.Author.Needs.{needs}
 use Rattle.panel.proofs.Events.{event-on}
 use Rattle.panel.proofs.Panel.set_ready.Statement.{statement}

@@ -1,4 +1,4 @@
--- `panel::Panel::tick` meets its contract.
+-- `panel::Panel::tick` meets its contract. Assumes nothing.
 use borrow.Author.Needs.{needs}
 use Rattle.panel.proofs.Events.{event-on}
 use Rattle.panel.proofs.Panel.tick.Statement.{statement}

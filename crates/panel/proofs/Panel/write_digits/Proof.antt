@@ -1,4 +1,4 @@
--- `panel::Panel::write_digits` meets its contract.
+-- `panel::Panel::write_digits` meets its contract. Assumes nothing.
 use mathlib.Core.Path.{_≡_}
 use mathlib.Core.List.{List, [], _∷_}
 use Prim.Native.Nat.{ℕ}

@@ -1,3 +1,4 @@
+-- `vectors::calls::ticks` ends and stays within its memory. The invariant: i is at most n, and the image keeps its length. Assumes nothing.
 use Prim.Native.Nat.{_≤_, _-_}
 use mathlib.Core.Path.{_≡_}
 use lib.ListN.{length}

@@ -1,3 +1,4 @@
+-- `vectors::report::are_same` ends and stays within its memory. The invariant: i is within the bytes got. Assumes the kit's contract of `write`.
 use Prim.Native.Nat.{_≤_, _-_}
 use lib.ListN.{length}
 use borrow.Author.Needs.{needs}

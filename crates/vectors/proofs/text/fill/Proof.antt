@@ -1,3 +1,4 @@
+-- `vectors::text::fill` ends and stays within its memory. The invariant: i is within the text, and the bytes keep their length. Assumes nothing.
 use Prim.Native.Nat.{_≤_, _-_}
 use mathlib.Core.Path.{_≡_}
 use lib.ListN.{length}

@@ -1,3 +1,4 @@
+-- `vectors::text::number` ends and stays within its memory. The invariant: i is within the text. Assumes nothing.
 use Prim.Native.Nat.{_≤_, _-_}
 use lib.ListN.{length}
 use borrow.Author.Needs.{needs}
