@@ -1,5 +1,5 @@
 -- The guard over many ticks: STBY stays low until the guard has run out, and is then high exactly with configuration b0. Assumes nothing.
-use Prim.Native.Nat.{ℕ, zero, suc, _-_, _*_, _<_}
+use Prim.Native.Nat.{ℕ, zero, suc, _-_, _<_}
 use mathlib.Core.Path.{_≡_, refl, ap, _∙_}
 use mathlib.Core.Bool.{Bool, false, cond, not, _&&_}
 use native.Mathlib.Omega.{arith}
@@ -7,6 +7,7 @@ use borrow.Author.Tests.{eq-eqb, ne-eqb}
 use Rattle.controller.specs.declared.Core.{Core}
 use Rattle.controller.specs.declared.Setup.{Setup}
 use Rattle.controller.specs.State.{guardSleeps}
+use Rattle.controller.specs.Standby.{guardLoad}
 use Rattle.controller.specs.Sound.{Sound}
 use Rattle.controller.specs.Tick.{ticked}
 use Rattle.common.specs.Bits.{bitSet}
@@ -23,7 +24,7 @@ module _ {w : ℕ} {c : Core} (h : Sound w c) (low : c .power .stby ≡ false) w
   stby-low-ticked = stby-ticked h ∙ ap (λ (b : Bool). cond b (not (rtcEvent c)) (guardEnds c)) low
 
   pub guard-low-ticked : (ticked c) .power .guard .0 ≡ c .power .guard .0 - 1
-  guard-low-ticked = guard-ticked h ∙ ap (λ (b : Bool). cond b (cond (rtcEvent c) (16 * c .setup .guardvalue .0) 0) (c .power .guard .0) - 1) low
+  guard-low-ticked = guard-ticked h ∙ ap (λ (b : Bool). cond b (cond (rtcEvent c) (guardLoad c .0) 0) (c .power .guard .0) - 1) low
 
 -- ---- Many ticks
 

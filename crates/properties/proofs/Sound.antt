@@ -20,7 +20,7 @@ use Rattle.timekeeper.specs.Clock.{clockOf, withClock, validCalendar}
 use Rattle.timekeeper.specs.Alarm.{alarmOf}
 use Rattle.controller.specs.declared.Core.{Core}
 use Rattle.controller.specs.State.{withPower, withRemote, rtc, power, keys, remote, sixteenths, guardSleeps, everyKeyHot, remoteWakes, wakeUpCounts, KEY, REMOTE, WAKE-UP, RTC, ALARM-FLAG, WATCHDOG-FLAG}
-use Rattle.controller.specs.Standby.{standbyBegun, standbyEnded, raised}
+use Rattle.controller.specs.Standby.{guardLoad, standbyBegun, standbyEnded, raised}
 use Rattle.controller.specs.Tick.{secondPassed, clockTicked, watchdogTicked, guardTicked, ticked}
 use Rattle.controller.specs.Keys.{without, counted, pressed, sampled}
 use Rattle.controller.specs.Remote.{keyed}
@@ -33,7 +33,7 @@ use Rattle.properties.proofs.SoundParts.{sound-rtc, sound-power, sound-
 
 module _ {w : ℕ} {c : Core} (h : Sound w c) where
   -- STBY low, or a guard that has stopped
-  power-low : (a b : Bool) (g : Sixteenths) → g .0 ≤ 16 * c .setup .guardvalue .0 → SoundPower (c .setup) (power a b false g)
+  power-low : (a b : Bool) (g : Sixteenths) → g .0 ≤ guardLoad c .0 → SoundPower (c .setup) (power a b false g)
   power-low a b g hg = record { guard = hg; stopped = λ e. absurd (false≢true e) }
 
   power-stopped : (a b s : Bool) → SoundPower (c .setup) (power a b s (sixteenths 0))
