@@ -22,7 +22,7 @@ use Rattle.demands.specs.Exact.{Exactly}
 use Rattle.demands.specs.Standby.{begins, ends}
 use Rattle.demands.proofs.Refusals.{refused-untouched, grounds-exact}
 use Rattle.demands.proofs.Commands.{standby-byte, stby-executed}
-use Rattle.demands.proofs.Valid.{valid-sound, command-awake, accepted-panel}
+use Rattle.demands.proofs.Valid.{command-awake, accepted-panel}
 
 -- ---- One event, by STBY before it
 
@@ -52,7 +52,7 @@ module _ {l : List ℕ} (v : Valid l) where
 
   after-each : (e : Event) (o : List ℕ) → after e l o .number ≡ 0 → (panelAfter e (decoded l)) .core .power .stby ≡ cond (stby l) (not (ends e c)) (begins e c)
   after-each powerUp o a = lowered (stby l)
-  after-each tick o a = stby-ticked (valid-sound v .core)
+  after-each tick o a = stby-ticked c
   after-each (sample n) o a = stby-sampled c n ∙ ended (stby l) (hotPress c n)
   after-each (frame n) o a = stby-keyedBy c (keyOf (c .setup .protocol) n) (grounds-exact (frame n) l o .groundless a .1 .0)
   after-each (ready level) o a = stby-readySet c (high level) ∙ begun (stby l) (readyFalls c (high level))

@@ -6,15 +6,16 @@ use mathlib.Core.List.{[], _∷_}
 use native.Mathlib.Omega.{arith}
 use native.Mathlib.Nat.{lt-of-le-of-lt}
 use lib.Bits.{bitOr, or-lt, and-le-l}
-use lib.Dec.{eqb, ltb}
+use lib.Dec.{eqb}
 use lib.Pow.{pow-pos}
-use borrow.Author.Tests.{ltb-true}
 use Rattle.common.proofs.Choice.{of-cond}
 use Rattle.common.proofs.Each.{each-at, done, _also_}
 use Rattle.calendar.specs.Date.{leap, monthLength}
 use Rattle.calendar.specs.Carry.{next}
 use Rattle.alarm.specs.Match.{matches}
 use Rattle.units.specs.declared.Sixteenths.{Sixteenths}
+use Rattle.units.specs.Units.{oneMore, fillsSecond}
+use Rattle.units.proofs.Laws.{unfilled}
 use Rattle.registers.specs.Names.{stopped, AFE, WDFEn}
 use Rattle.timekeeper.specs.Clock.{clockOf, withClock, validCalendar}
 use Rattle.timekeeper.specs.Alarm.{alarmOf}
@@ -69,8 +70,8 @@ module _ {w : ℕ} {c : Core} (h : Sound w c) where
   unfolding clockTicked
   sound-clockTicked =
       of-cond (Sound w) (stopped (c .rtc .registers)) _ _ (λ e. h)
-      (λ e. of-cond (Sound w) (ltb (c .rtc .sixteenths .0) 15) _ _
-      (λ l. sound-rtc h _ (sound-timers (h .rtc) _ (omega (arith, ltb-true (c .rtc .sixteenths .0) 15 l)) _ (h .rtc .flags) _ (h .rtc .watchdog))) (λ l. sound-secondPassed))
+      (λ e. of-cond (Sound w) (fillsSecond (oneMore (c .rtc .sixteenths))) _ _ (λ l. sound-secondPassed)
+      (λ l. sound-rtc h _ (sound-timers (h .rtc) _ (unfilled (oneMore (c .rtc .sixteenths)) l) _ (h .rtc .flags) _ (h .rtc .watchdog))))
 
   sound-watchdogTicked : Sound w (watchdogTicked c)
   unfolding watchdogTicked

@@ -73,18 +73,17 @@ module _ (s : Setup) (ready wakeup : Bool) (g : Sixteenths) where
   guard-roused false true h = h refl
   guard-roused false false h = refl
 
-module _ {w : ℕ} {c : Core} (h : Sound w c) where
-  pub stby-ticked : (ticked c) .power .stby ≡ cond (c .power .stby) (not (rtcEvent c)) (guardEnds c)
-  unfolding guardEnds
-  stby-ticked =
-      ap (λ (p : Power). p .stby) (power-ticked c (h .rtc .sixteenths)) ∙ stby-guarded (c .setup) (roused (c .setup) (rtcEvent c) (c .power))
-      ∙ stby-roused (c .setup) (c .power .ready) (c .power .wakeup) (c .power .guard) (rtcEvent c) (c .power .stby)
+pub stby-ticked : (c : Core) → (ticked c) .power .stby ≡ cond (c .power .stby) (not (rtcEvent c)) (guardEnds c)
+unfolding guardEnds
+stby-ticked c =
+    ap (λ (p : Power). p .stby) (power-ticked c) ∙ stby-guarded (c .setup) (roused (c .setup) (rtcEvent c) (c .power))
+    ∙ stby-roused (c .setup) (c .power .ready) (c .power .wakeup) (c .power .guard) (rtcEvent c) (c .power .stby)
 
-  -- the guard falls by one, from its load in a tick that wakes, and else stays stopped with STBY high
-  pub guard-ticked : (ticked c) .power .guard .0 ≡ cond (c .power .stby) (cond (rtcEvent c) (guardLoad c .0) 0) (c .power .guard .0) - 1
-  guard-ticked =
-      ap (λ (p : Power). p .guard .0) (power-ticked c (h .rtc .sixteenths)) ∙ guard-guarded (c .setup) (roused (c .setup) (rtcEvent c) (c .power))
-      ∙ ap (λ (n : ℕ). n - 1) (guard-roused (c .setup) (c .power .ready) (c .power .wakeup) (c .power .guard) (rtcEvent c) (c .power .stby) (h .power .stopped))
+-- the guard falls by one, from its load in a tick that wakes, and else stays stopped with STBY high
+pub guard-ticked : {w : ℕ} {c : Core} → Sound w c → (ticked c) .power .guard .0 ≡ cond (c .power .stby) (cond (rtcEvent c) (guardLoad c .0) 0) (c .power .guard .0) - 1
+guard-ticked {c = c} h =
+    ap (λ (p : Power). p .guard .0) (power-ticked c) ∙ guard-guarded (c .setup) (roused (c .setup) (rtcEvent c) (c .power))
+    ∙ ap (λ (n : ℕ). n - 1) (guard-roused (c .setup) (c .power .ready) (c .power .wakeup) (c .power .guard) (rtcEvent c) (c .power .stby) (h .power .stopped))
 
 -- ---- Keys
 
