@@ -80,19 +80,29 @@ fn interrupt_for(flags: u8) -> u8
     if common::bit(flags, 1) { 16 } else { 0 }
 }
 
-// The panel after n seconds without supply.
+// The state that both panel kinds share after n seconds without supply: power-up's, but for the clock and b4.
+pub fn return_core(c: Core, n: Seconds) -> Core
+    requires { ⌜ Valid (clockOf (c .rtc .registers)) ⌝ }
+    requires { ⌜ n .0 ≤ 31622400 ⌝ }
+    ensures { λ r. ⌜ r ≡ returned (n .0) c ⌝ }
+{
+    let kept = c.rtc;
+    let rtc = return_rtc(kept, n);
+    let mut core = Core::power_up();
+    core.rtc = rtc;
+    core.interrupt = interrupt_for(rtc.flags);
+    core
+}
+
+// The panel after n seconds without supply: all that is its own is as at power-up.
 pub fn return_panel(p: Panel, n: Seconds) -> Panel
     requires { ⌜ Valid (clockOf (p .core .rtc .registers)) ⌝ }
     requires { ⌜ n .0 ≤ 31622400 ⌝ }
     ensures { λ r. ⌜ r ≡ panelReturned (n .0) p ⌝ }
 {
     let old = p.core;
-    let kept = old.rtc;
-    let rtc = return_rtc(kept, n);
+    let core = return_core(old, n);
     let mut up = Panel::power_up();
-    let mut core = up.core;
-    core.rtc = rtc;
-    core.interrupt = interrupt_for(rtc.flags);
     up.core = core;
     up
 }
