@@ -1,12 +1,15 @@
-// Supply return: the panel at power-up, but for the clock, which moved on over the cut.
+// Supply return: the state at power-up, but for the clock, which moved on over the cut. Here is what both panel kinds share; a module for each
+// kind puts its panel around it.
 ghost use mathlib.Core.Path.{_≡_};
 ghost use Prim.Native.Nat.{_≤_};
 ghost use Rattle.calendar.specs.Clock.{Valid};
 ghost use Rattle.timekeeper.specs.Clock.{clockOf};
-ghost use Rattle.supply.specs.Return.{registersReturned, matchCounts, flagsReturned, rtcReturned, interruptFor, returned, panelReturned};
+ghost use Rattle.supply.specs.Return.{registersReturned, matchCounts, flagsReturned, rtcReturned, interruptFor, returned};
+
+pub mod first_kind;
+
 use controller::Core;
 use controller::Rtc;
-use panel::Panel;
 use units::Seconds;
 use units::Sixteenths;
 
@@ -92,17 +95,4 @@ pub fn return_core(c: Core, n: Seconds) -> Core
     core.rtc = rtc;
     core.interrupt = interrupt_for(rtc.flags);
     core
-}
-
-// The panel after n seconds without supply: all that is its own is as at power-up.
-pub fn return_panel(p: Panel, n: Seconds) -> Panel
-    requires { ⌜ Valid (clockOf (p .core .rtc .registers)) ⌝ }
-    requires { ⌜ n .0 ≤ 31622400 ⌝ }
-    ensures { λ r. ⌜ r ≡ panelReturned (n .0) p ⌝ }
-{
-    let old = p.core;
-    let core = return_core(old, n);
-    let mut up = Panel::power_up();
-    up.core = core;
-    up
 }

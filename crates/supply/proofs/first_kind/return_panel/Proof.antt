@@ -1,4 +1,4 @@
--- `supply::return_panel` meets its contract.
+-- `supply::first_kind::return_panel` meets its contract.
 use mathlib.Core.Path.{_≡_}
 use Prim.Native.Nat.{ℕ}
 use borrow.Author.Needs.{needs}
@@ -7,8 +7,8 @@ use Rattle.panel.specs.declared.Panel.{Panel}
 use Rattle.panel.specs.State.{withCore}
 use Rattle.panel.specs.PowerUp.{panelPoweredUp}
 use Rattle.supply.specs.Return.{returned, panelReturned}
-use Rattle.supply.proofs.return_panel.Statement.{statement}
-use Rattle.supply.proofs.return_panel.Tie as tie
+use Rattle.supply.proofs.first_kind.return_panel.Statement.{statement}
+use Rattle.supply.proofs.first_kind.return_panel.Tie as tie
 
 again : (n : ℕ) (p : Panel) (c : Core) (up : Panel) → c ≡ returned n (p .core) → up ≡ panelPoweredUp → withCore up c ≡ panelReturned n p
 again n p c up ec eu = λ i. withCore (eu i) (ec i)
