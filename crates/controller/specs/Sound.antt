@@ -1,9 +1,10 @@
 -- Document 01, "The image": what holds of the state in a valid image. `width` is the number of keys of the panel kind.
 use mathlib.Core.Path.{_≡_}
 use mathlib.Core.Bool.{Bool, true, _||_}
-use Prim.Native.Nat.{ℕ, _*_, _/_, _%_, _^_, _≤_, _<_}
+use Prim.Native.Nat.{ℕ, _/_, _%_, _^_, _≤_, _<_}
 use lib.Dec.{eqb}
 use lib.ListN.{length, getD}
+use Rattle.units.specs.Units.{sixteenthsOf}
 use Rattle.registers.specs.Names.{at, WATCHDOG}
 use Rattle.registers.specs.Written.{reservedClear}
 use Rattle.registers.specs.Watchdog.{watchdogLoad}
@@ -36,7 +37,7 @@ pub record SoundSetup (s : Setup) : Type 0 where
 
 -- guard left is at most 16 times the guard value, and 0 while STBY is high
 pub record SoundPower (s : Setup) (p : Power) : Type 0 where
-  pub guard : p .guard .0 ≤ 16 * s .guardvalue .0
+  pub guard : p .guard .0 ≤ sixteenthsOf (s .guardvalue) .0
   pub stopped : p .stby ≡ true → p .guard .0 ≡ 0
 
 pub record SoundKeys (width : ℕ) (k : Keys) : Type 0 where

@@ -48,7 +48,7 @@ remote fresh address command = record { fresh = fresh; address = address; comman
 abbrev pub sixteenths : ℕ → Sixteenths
 sixteenths n = record { 0 = n }
 
--- ---- configuration bits b0 to b5: the guard's end begins standby, every key is hot, a remote key wakes, WAKE_UP counts
+-- ---- configuration bits: b0 the guard's end begins standby, b1 every key is hot, b2 a remote key wakes, b5 WAKE_UP counts; b3 is the display's
 
 abbrev pub guardSleeps : Core → Bool
 guardSleeps c = bitSet (c .setup .configuration) 1

@@ -1,16 +1,15 @@
 -- Document 01, "Tick": the clock, then the watchdog, then the guard, each on what the one before left.
-use Prim.Native.Nat.{ℕ, _+_, _-_}
-use mathlib.Core.Bool.{Bool, cond, _&&_, _||_}
-use mathlib.Core.List.{List}
+use Prim.Native.Nat.{_-_}
+use mathlib.Core.Bool.{cond, _&&_, _||_}
 use lib.Bits.{bitOr}
-use lib.Dec.{eqb, ltb}
+use lib.Dec.{eqb}
 use Rattle.calendar.specs.declared.Clock.{Clock}
 use Rattle.calendar.specs.Carry.{next}
 use Rattle.alarm.specs.Match.{matches}
 use Rattle.registers.specs.Names.{stopped, AFE, WDFEn}
 use Rattle.timekeeper.specs.Clock.{clockOf, withClock}
 use Rattle.timekeeper.specs.Alarm.{alarmOf}
-use Rattle.units.specs.declared.Sixteenths.{Sixteenths}
+use Rattle.units.specs.Units.{oneMore, fillsSecond}
 use Rattle.controller.specs.declared.Core.{Core}
 use Rattle.controller.specs.State.{withRtc, withPower, rtc, power, sixteenths, guardSleeps, RTC, ALARM-FLAG, WATCHDOG-FLAG}
 use Rattle.controller.specs.Standby.{standbyBegun, raised}
@@ -28,8 +27,8 @@ secondPassed c = passedTo c (next (clockOf (c .rtc .registers)))
 -- the sixteenths rise, and at 16 the second passes
 abbrev pub sixteenthPassed : Core → Core
 sixteenthPassed c =
-    cond (ltb (c .rtc .sixteenths .0) 15)
-    (withRtc c (rtc (c .rtc .registers) (sixteenths (c .rtc .sixteenths .0 + 1)) (c .rtc .flags) (c .rtc .watchdog))) (secondPassed c)
+    cond (fillsSecond (oneMore (c .rtc .sixteenths))) (secondPassed c)
+    (withRtc c (rtc (c .rtc .registers) (oneMore (c .rtc .sixteenths)) (c .rtc .flags) (c .rtc .watchdog)))
 
 -- first step: unless the oscillator is stopped
 unfoldable pub clockTicked : Core → Core

@@ -35,14 +35,14 @@ impl Core {
         if registers::is_stopped(registers) {
             return self;
         }
-        let passed = rtc.sixteenths.0;
-        if passed < 15 {
-            let more = Sixteenths(passed + 1);
-            rtc.sixteenths = more;
-            self.rtc = rtc;
-            return self;
+        let passed = rtc.sixteenths;
+        if units::fills_with_next(passed) {
+            return self.pass_second();
         }
-        self.pass_second()
+        let more = Sixteenths(passed.0 + 1);
+        rtc.sixteenths = more;
+        self.rtc = rtc;
+        self
     }
 
     // The watchdog's part of a tick.

@@ -26,7 +26,7 @@ use Rattle.demands.specs.Event.{Event, powerUp, tick, sample, frame, rea
 use Rattle.demands.specs.Clock.{writesClock, changesClock, Step, afterAll, Quiet}
 use Rattle.demands.proofs.Refusals.{refused-untouched}
 use Rattle.demands.proofs.Commands.{write-byte, registers-executed}
-use Rattle.demands.proofs.Valid.{valid-sound, power-up-or-valid, accepted-panel, stays-valid}
+use Rattle.demands.proofs.Valid.{power-up-or-valid, accepted-panel, stays-valid}
 
 -- ---- One event
 
@@ -43,7 +43,7 @@ module _ {l : List ℕ} (v : Valid l) where
 
   kept-each : (e : Event) → writesClock e c ≡ false → (panelAfter e (decoded l)) .core .rtc .registers ≡ registersIn l
   kept-each powerUp n = absurd (true≢false n)
-  kept-each tick n = registers-ticked (valid-sound v .core) ∙ ap (λ (b : Bool). cond b (withClock (c .rtc .registers) (nextSecond c)) (c .rtc .registers)) n
+  kept-each tick n = registers-ticked c ∙ ap (λ (b : Bool). cond b (withClock (c .rtc .registers) (nextSecond c)) (c .rtc .registers)) n
   kept-each (sample k) n = ap registersOf (rtc-sampled c k)
   kept-each (frame k) n = ap registersOf (rtc-keyedBy c (keyOf (c .setup .protocol) k))
   kept-each (ready level) n = ap registersOf (rtc-readySet c (high level))

@@ -25,7 +25,7 @@ use Rattle.demands.specs.Exact.{Exactly}
 use Rattle.demands.specs.Standby.{begins, ends}
 use Rattle.demands.proofs.Refusals.{refused-untouched, grounds-exact}
 use Rattle.demands.proofs.Commands.{standby-byte, stby-executed}
-use Rattle.demands.proofs.Valid.{valid-sound, power-up-or-valid, command-awake, accepted-panel, powered-panel}
+use Rattle.demands.proofs.Valid.{power-up-or-valid, command-awake, accepted-panel, powered-panel}
 
 -- ---- One event, by STBY before it
 
@@ -56,24 +56,23 @@ module _ (l : List ℕ) where
   abbrev c : Core
   c = decoded l .core
 
-  module _ (v : Valid l) where
-    after-each : (e : Event) (o : List ℕ) → after e l o .number ≡ 0 → (panelAfter e (decoded l)) .core .power .stby ≡ cond (stby l) (not (ends e c)) (begins e c)
-    after-each powerUp o a = lowered (stby l)
-    after-each tick o a = stby-ticked (valid-sound v .core)
-    after-each (sample n) o a = stby-sampled c n ∙ ended (stby l) (hotPress c n)
-    after-each (frame n) o a = stby-keyedBy c (keyOf (c .setup .protocol) n) (grounds-exact (frame n) l o .groundless a .1 .0)
-    after-each (ready level) o a = stby-readySet c (high level) ∙ begun (stby l) (readyFalls c (high level))
-    after-each (wakeUp level) o a = stby-wakeUpSet c (high level) ∙ ended (stby l) (wakeUpRises c (high level))
-    after-each (command s) o a =
-        stby-executed (decoded l) s (command-awake s l o a) (commandOf s)
-        ∙ standby-byte (byte s 0) (byte s 1) (byte s 2)
-        ∙ ap (λ (b : Bool). cond b true (begins (command s) c)) (sym (command-awake s l o a))
-    after-each show o a = same (stby l)
-    after-each lines o a = same (stby l)
-    after-each (supplyReturn n) o a = lowered (stby l)
+  after-each : (e : Event) (o : List ℕ) → after e l o .number ≡ 0 → (panelAfter e (decoded l)) .core .power .stby ≡ cond (stby l) (not (ends e c)) (begins e c)
+  after-each powerUp o a = lowered (stby l)
+  after-each tick o a = stby-ticked c
+  after-each (sample n) o a = stby-sampled c n ∙ ended (stby l) (hotPress c n)
+  after-each (frame n) o a = stby-keyedBy c (keyOf (c .setup .protocol) n) (grounds-exact (frame n) l o .groundless a .1 .0)
+  after-each (ready level) o a = stby-readySet c (high level) ∙ begun (stby l) (readyFalls c (high level))
+  after-each (wakeUp level) o a = stby-wakeUpSet c (high level) ∙ ended (stby l) (wakeUpRises c (high level))
+  after-each (command s) o a =
+      stby-executed (decoded l) s (command-awake s l o a) (commandOf s)
+      ∙ standby-byte (byte s 0) (byte s 1) (byte s 2)
+      ∙ ap (λ (b : Bool). cond b true (begins (command s) c)) (sym (command-awake s l o a))
+  after-each show o a = same (stby l)
+  after-each lines o a = same (stby l)
+  after-each (supplyReturn n) o a = lowered (stby l)
 
-    exact-of-valid : (e : Event) → Given e → (o : List ℕ) → after e l o .number ≡ 0 → stby (after e l o .image) ≡ cond (stby l) (not (ends e c)) (begins e c)
-    exact-of-valid e g o a = ap stbyOf (accepted-panel v e g o a) ∙ after-each e o a
+  exact-of-valid : Valid l → (e : Event) → Given e → (o : List ℕ) → after e l o .number ≡ 0 → stby (after e l o .image) ≡ cond (stby l) (not (ends e c)) (begins e c)
+  exact-of-valid v e g o a = ap stbyOf (accepted-panel v e g o a) ∙ after-each e o a
 
   module _ (small : Bytes l) (e : Event) (g : Given e) (o : List ℕ) where
     -- ---- AN ACCEPTED EVENT

@@ -96,7 +96,7 @@ pub fn return_supply(image: &mut [u8], n: Seconds)
     ensures { λ _. ⌜ now (image .exit) ≡ encoded (panelReturned (n .0) (decoded (now (image .entry)))) ⌝ }
 {
     let p = panel_in(image);
-    store(image, supply::return_panel(p, n));
+    store(image, supply::first_kind::return_panel(p, n));
 }
 
 // The set protocol.

@@ -1,5 +1,5 @@
 -- The guard over many ticks: STBY stays low until the guard has run out, and is then high exactly with configuration b0. Assumes nothing.
-use Prim.Native.Nat.{ℕ, zero, suc, _-_, _*_, _<_}
+use Prim.Native.Nat.{ℕ, zero, suc, _-_, _<_}
 use mathlib.Core.Path.{_≡_, refl, ap, _∙_}
 use mathlib.Core.Bool.{Bool, false, cond, not, _&&_}
 use native.Mathlib.Omega.{arith}
@@ -7,6 +7,7 @@ use borrow.Author.Tests.{eq-eqb, ne-eqb}
 use Rattle.controller.specs.declared.Core.{Core}
 use Rattle.controller.specs.declared.Setup.{Setup}
 use Rattle.controller.specs.State.{guardSleeps}
+use Rattle.controller.specs.Standby.{guardLoad}
 use Rattle.controller.specs.Sound.{Sound}
 use Rattle.controller.specs.Tick.{ticked}
 use Rattle.common.specs.Bits.{bitSet}
@@ -18,25 +19,25 @@ use Rattle.properties.proofs.Standby.{stby-ticked, guard-ticked}
 
 -- ---- One tick with STBY low
 
-module _ {w : ℕ} {c : Core} (h : Sound w c) (low : c .power .stby ≡ false) where
+module _ (c : Core) (low : c .power .stby ≡ false) where
   pub stby-low-ticked : (ticked c) .power .stby ≡ guardEnds c
-  stby-low-ticked = stby-ticked h ∙ ap (λ (b : Bool). cond b (not (rtcEvent c)) (guardEnds c)) low
+  stby-low-ticked = stby-ticked c ∙ ap (λ (b : Bool). cond b (not (rtcEvent c)) (guardEnds c)) low
 
-  pub guard-low-ticked : (ticked c) .power .guard .0 ≡ c .power .guard .0 - 1
-  guard-low-ticked = guard-ticked h ∙ ap (λ (b : Bool). cond b (cond (rtcEvent c) (16 * c .setup .guardvalue .0) 0) (c .power .guard .0) - 1) low
+  pub guard-low-ticked : {w : ℕ} → Sound w c → (ticked c) .power .guard .0 ≡ c .power .guard .0 - 1
+  guard-low-ticked h = guard-ticked h ∙ ap (λ (b : Bool). cond b (cond (rtcEvent c) (guardLoad c .0) 0) (c .power .guard .0) - 1) low
 
 -- ---- Many ticks
+
+pub setup-ticks : (c : Core) (n : ℕ) → (ticks n c) .setup ≡ c .setup
+unfolding ticks
+setup-ticks c zero = refl
+setup-ticks c (suc n) = setup-ticked (ticks n c) ∙ setup-ticks c n
 
 module _ {w : ℕ} {c : Core} (h : Sound w c) where
   pub sound-ticks : (n : ℕ) → Sound w (ticks n c)
   unfolding ticks
   sound-ticks zero = h
   sound-ticks (suc n) = sound-ticked (sound-ticks n)
-
-  pub setup-ticks : (n : ℕ) → (ticks n c) .setup ≡ c .setup
-  unfolding ticks
-  setup-ticks zero = refl
-  setup-ticks (suc n) = setup-ticked (ticks n c) (sound-ticks n .rtc .sixteenths) ∙ setup-ticks n
 
   module _ (low : c .power .stby ≡ false) where
     -- while the guard runs
@@ -45,8 +46,8 @@ module _ {w : ℕ} {c : Core} (h : Sound w c) where
     guard-runs zero l = (low, omega arith)
     guard-runs (suc n) l =
         let before = guard-runs n (omega arith) in (
-          stby-low-ticked (sound-ticks n) (before .0) ∙ ap (λ (b : Bool). b && guardSleeps (ticks n c)) (ne-eqb ((ticks n c) .power .guard .0) 1 (λ e. omega (arith, before .1))),
-          omega (arith, guard-low-ticked (sound-ticks n) (before .0), before .1),
+          stby-low-ticked (ticks n c) (before .0) ∙ ap (λ (b : Bool). b && guardSleeps (ticks n c)) (ne-eqb ((ticks n c) .power .guard .0) 1 (λ e. omega (arith, before .1))),
+          omega (arith, guard-low-ticked (ticks n c) (before .0) (sound-ticks n), before .1),
         )
 
     -- the tick in which it runs out
@@ -54,6 +55,6 @@ module _ {w : ℕ} {c : Core} (h : Sound w c) where
     unfolding ticks guardEnds
     guard-out n e =
         let before = guard-runs n (omega arith) in
-        stby-low-ticked (sound-ticks n) (before .0)
+        stby-low-ticked (ticks n c) (before .0)
         ∙ ap (λ (b : Bool). b && guardSleeps (ticks n c)) (eq-eqb ((ticks n c) .power .guard .0) 1 (omega (arith, before .1)))
-        ∙ ap (λ (s : Setup). bitSet (s .configuration) 1) (setup-ticks n)
+        ∙ ap (λ (s : Setup). bitSet (s .configuration) 1) (setup-ticks c n)

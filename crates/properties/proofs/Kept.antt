@@ -12,17 +12,15 @@ use Rattle.controller.specs.Tick.{clockTicked, watchdogTicked, ticked}
 use Rattle.controller.specs.Keys.{without, counted, pressed, sampled}
 use Rattle.controller.specs.Remote.{keyed}
 use Rattle.controller.specs.Pins.{readySet, wakeUpSet}
-use Rattle.controller.specs.Sound.{Sound}
 use Rattle.properties.specs.Causes.{secondPasses, nextSecond}
 use Rattle.properties.proofs.Raised.{rtc-raised}
 use Rattle.properties.proofs.Steps.{registers-clockTicked, registers-watchdogTicked, registers-guardTicked}
 
 -- ---- A tick
 
-pub registers-ticked : {w : ℕ} {c : Core} → Sound w c → (ticked c) .rtc .registers ≡ cond (secondPasses c) (withClock (c .rtc .registers) (nextSecond c)) (c .rtc .registers)
+pub registers-ticked : (c : Core) → (ticked c) .rtc .registers ≡ cond (secondPasses c) (withClock (c .rtc .registers) (nextSecond c)) (c .rtc .registers)
 unfolding ticked
-registers-ticked {c = c} h =
-    registers-guardTicked (watchdogTicked (clockTicked c)) ∙ registers-watchdogTicked (clockTicked c) ∙ registers-clockTicked c (h .rtc .sixteenths)
+registers-ticked c = registers-guardTicked (watchdogTicked (clockTicked c)) ∙ registers-watchdogTicked (clockTicked c) ∙ registers-clockTicked c
 
 -- ---- The other events leave the whole clock as it is, as an event of any source does (`rtc-raised`)
 

@@ -6,21 +6,22 @@ use mathlib.Core.List.{[], _∷_}
 use native.Mathlib.Omega.{arith}
 use native.Mathlib.Nat.{lt-of-le-of-lt}
 use lib.Bits.{bitOr, or-lt, and-le-l}
-use lib.Dec.{eqb, ltb}
+use lib.Dec.{eqb}
 use lib.Pow.{pow-pos}
-use borrow.Author.Tests.{ltb-true}
 use Rattle.common.proofs.Choice.{of-cond}
 use Rattle.common.proofs.Each.{each-at, done, _also_}
 use Rattle.calendar.specs.Date.{monthLength}
 use Rattle.calendar.specs.Carry.{next}
 use Rattle.alarm.specs.Match.{matches}
 use Rattle.units.specs.declared.Sixteenths.{Sixteenths}
+use Rattle.units.specs.Units.{oneMore, fillsSecond}
+use Rattle.units.proofs.Laws.{unfilled}
 use Rattle.registers.specs.Names.{stopped, AFE, WDFEn}
 use Rattle.timekeeper.specs.Clock.{clockOf, withClock, validCalendar}
 use Rattle.timekeeper.specs.Alarm.{alarmOf}
 use Rattle.controller.specs.declared.Core.{Core}
 use Rattle.controller.specs.State.{withPower, withRemote, rtc, power, keys, remote, sixteenths, guardSleeps, everyKeyHot, remoteWakes, wakeUpCounts, KEY, REMOTE, WAKE-UP, RTC, ALARM-FLAG, WATCHDOG-FLAG}
-use Rattle.controller.specs.Standby.{standbyBegun, standbyEnded, raised}
+use Rattle.controller.specs.Standby.{guardLoad, standbyBegun, standbyEnded, raised}
 use Rattle.controller.specs.Tick.{secondPassed, clockTicked, watchdogTicked, guardTicked, ticked}
 use Rattle.controller.specs.Keys.{without, counted, pressed, sampled}
 use Rattle.controller.specs.Remote.{keyed}
@@ -33,7 +34,7 @@ use Rattle.properties.proofs.SoundParts.{sound-rtc, sound-power, sound-
 
 module _ {w : ℕ} {c : Core} (h : Sound w c) where
   -- STBY low, or a guard that has stopped
-  power-low : (a b : Bool) (g : Sixteenths) → g .0 ≤ 16 * c .setup .guardvalue .0 → SoundPower (c .setup) (power a b false g)
+  power-low : (a b : Bool) (g : Sixteenths) → g .0 ≤ guardLoad c .0 → SoundPower (c .setup) (power a b false g)
   power-low a b g hg = record { guard = hg; stopped = λ e. absurd (false≢true e) }
 
   power-stopped : (a b s : Bool) → SoundPower (c .setup) (power a b s (sixteenths 0))
@@ -69,8 +70,8 @@ module _ {w : ℕ} {c : Core} (h : Sound w c) where
   unfolding clockTicked
   sound-clockTicked =
       of-cond (Sound w) (stopped (c .rtc .registers)) _ _ (λ e. h)
-      (λ e. of-cond (Sound w) (ltb (c .rtc .sixteenths .0) 15) _ _
-      (λ l. sound-rtc h _ (sound-timers (h .rtc) _ (omega (arith, ltb-true (c .rtc .sixteenths .0) 15 l)) _ (h .rtc .flags) _ (h .rtc .watchdog))) (λ l. sound-secondPassed))
+      (λ e. of-cond (Sound w) (fillsSecond (oneMore (c .rtc .sixteenths))) _ _ (λ l. sound-secondPassed)
+      (λ l. sound-rtc h _ (sound-timers (h .rtc) _ (unfilled (oneMore (c .rtc .sixteenths)) l) _ (h .rtc .flags) _ (h .rtc .watchdog))))
 
   sound-watchdogTicked : Sound w (watchdogTicked c)
   unfolding watchdogTicked

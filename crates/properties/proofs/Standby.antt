@@ -1,5 +1,5 @@
 -- Document 01, "Standby begins" and "It ends": STBY after each event, by the event's exact causes. Assumes nothing.
-use Prim.Native.Nat.{ℕ, _-_, _*_}
+use Prim.Native.Nat.{ℕ, _-_}
 use mathlib.Core.Path.{_≡_, refl, ap, _∙_}
 use mathlib.Core.Bool.{Bool, true, false, cond, not, _&&_, _||_, true≢false, Bool·beq}
 use native.Mathlib.Omega.{arith}
@@ -8,10 +8,12 @@ use borrow.Author.Tests.{eqb-true, ne-eqb}
 use Rattle.common.specs.Bits.{bitSet}
 use Rattle.common.proofs.Choice.{of-cond, ap-cond, and-left}
 use Rattle.units.specs.declared.Sixteenths.{Sixteenths}
+use Rattle.units.specs.Units.{sixteenthsOf}
 use Rattle.controller.specs.declared.Core.{Core}
 use Rattle.controller.specs.declared.Power.{Power}
 use Rattle.controller.specs.declared.Setup.{Setup}
 use Rattle.controller.specs.State.{power, remoteWakes, wakeUpCounts, KEY, REMOTE, WAKE-UP}
+use Rattle.controller.specs.Standby.{guardLoad}
 use Rattle.controller.specs.Tick.{ticked}
 use Rattle.controller.specs.Keys.{without, counted, pressed, sampled}
 use Rattle.controller.specs.Remote.{keyed}
@@ -60,29 +62,28 @@ module _ (s : Setup) (ready wakeup : Bool) (g : Sixteenths) where
   -- a guard just loaded is not at its end: 16 times a value is not 1
   stby-roused : (event stby : Bool) → atEnd s (roused s event (power ready wakeup stby g)) ≡ cond stby (not event) (eqb (g .0) 1 && bitSet (s .configuration) 1)
   unfolding atEnd
-  stby-roused true true = ap (λ (b : Bool). b && bitSet (s .configuration) 1) (ne-eqb (16 * s .guardvalue .0) 1 (λ e. omega arith))
+  stby-roused true true = ap (λ (b : Bool). b && bitSet (s .configuration) 1) (ne-eqb (sixteenthsOf (s .guardvalue) .0) 1 (λ e. omega arith))
   stby-roused true false = refl
   stby-roused false true = refl
   stby-roused false false = refl
 
-  guard-roused : (event stby : Bool) → (stby ≡ true → g .0 ≡ 0) → (roused s event (power ready wakeup stby g)) .guard .0 ≡ cond stby (cond event (16 * s .guardvalue .0) 0) (g .0)
+  guard-roused : (event stby : Bool) → (stby ≡ true → g .0 ≡ 0) → (roused s event (power ready wakeup stby g)) .guard .0 ≡ cond stby (cond event (sixteenthsOf (s .guardvalue) .0) 0) (g .0)
   guard-roused true true h = refl
   guard-roused true false h = refl
   guard-roused false true h = h refl
   guard-roused false false h = refl
 
-module _ {w : ℕ} {c : Core} (h : Sound w c) where
-  pub stby-ticked : (ticked c) .power .stby ≡ cond (c .power .stby) (not (rtcEvent c)) (guardEnds c)
-  unfolding guardEnds
-  stby-ticked =
-      ap (λ (p : Power). p .stby) (power-ticked c (h .rtc .sixteenths)) ∙ stby-guarded (c .setup) (roused (c .setup) (rtcEvent c) (c .power))
-      ∙ stby-roused (c .setup) (c .power .ready) (c .power .wakeup) (c .power .guard) (rtcEvent c) (c .power .stby)
+pub stby-ticked : (c : Core) → (ticked c) .power .stby ≡ cond (c .power .stby) (not (rtcEvent c)) (guardEnds c)
+unfolding guardEnds
+stby-ticked c =
+    ap (λ (p : Power). p .stby) (power-ticked c) ∙ stby-guarded (c .setup) (roused (c .setup) (rtcEvent c) (c .power))
+    ∙ stby-roused (c .setup) (c .power .ready) (c .power .wakeup) (c .power .guard) (rtcEvent c) (c .power .stby)
 
-  -- the guard falls by one, from its load in a tick that wakes, and else stays stopped with STBY high
-  pub guard-ticked : (ticked c) .power .guard .0 ≡ cond (c .power .stby) (cond (rtcEvent c) (16 * c .setup .guardvalue .0) 0) (c .power .guard .0) - 1
-  guard-ticked =
-      ap (λ (p : Power). p .guard .0) (power-ticked c (h .rtc .sixteenths)) ∙ guard-guarded (c .setup) (roused (c .setup) (rtcEvent c) (c .power))
-      ∙ ap (λ (n : ℕ). n - 1) (guard-roused (c .setup) (c .power .ready) (c .power .wakeup) (c .power .guard) (rtcEvent c) (c .power .stby) (h .power .stopped))
+-- the guard falls by one, from its load in a tick that wakes, and else stays stopped with STBY high
+pub guard-ticked : {w : ℕ} {c : Core} → Sound w c → (ticked c) .power .guard .0 ≡ cond (c .power .stby) (cond (rtcEvent c) (guardLoad c .0) 0) (c .power .guard .0) - 1
+guard-ticked {c = c} h =
+    ap (λ (p : Power). p .guard .0) (power-ticked c) ∙ guard-guarded (c .setup) (roused (c .setup) (rtcEvent c) (c .power))
+    ∙ ap (λ (n : ℕ). n - 1) (guard-roused (c .setup) (c .power .ready) (c .power .wakeup) (c .power .guard) (rtcEvent c) (c .power .stby) (h .power .stopped))
 
 -- ---- Keys
 

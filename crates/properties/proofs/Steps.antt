@@ -1,14 +1,13 @@
 -- A tick step by step: what each step leaves of the power part, the setup and the clock registers. Assumes nothing.
-use Prim.Native.Nat.{ℕ, zero, suc, _+_, _-_, _<_}
-use mathlib.Core.Path.{_≡_, refl, sym, ap, _∙_}
+use Prim.Native.Nat.{ℕ, zero, suc, _-_}
+use mathlib.Core.Path.{_≡_, refl, ap, _∙_}
 use mathlib.Core.Bool.{Bool, true, false, cond, not, _&&_, _||_, true≢false}
-use native.Mathlib.Omega.{arith}
-use lib.Dec.{eqb, ltb, eqb·suc-zero}
-use borrow.Author.Tests.{eqb-true, eqb-false, lt-ltb, le-ltb}
+use lib.Dec.{eqb, eqb·suc-zero}
 use Rattle.common.specs.Bits.{bitSet}
-use Rattle.common.proofs.Choice.{of-cond, ap-cond, by-cases}
+use Rattle.common.proofs.Choice.{of-cond, ap-cond}
 use Rattle.alarm.specs.Match.{matches}
 use Rattle.units.specs.declared.Sixteenths.{Sixteenths}
+use Rattle.units.specs.Units.{oneMore, fillsSecond}
 use Rattle.registers.specs.Names.{stopped, AFE, WDFEn}
 use Rattle.timekeeper.specs.Clock.{withClock}
 use Rattle.timekeeper.specs.Alarm.{alarmOf}
@@ -35,10 +34,9 @@ either true x = refl
 either false x = refl
 
 -- the clock's choices as one: the oscillator runs, and the second is full
-passing : {A : Type 0} (halted full : Bool) (x y : A) → cond halted y (cond (not full) y x) ≡ cond (not halted && full) x y
+passing : {A : Type 0} (halted full : Bool) (x y : A) → cond halted y (cond full x y) ≡ cond (not halted && full) x y
 passing true full x y = refl
-passing false true x y = refl
-passing false false x y = refl
+passing false full x y = refl
 
 -- the watchdog's choices as one: a watchdog with one sixteenth left is running
 ending : {A : Type 0} (none halted one enabled : Bool) (x y : A) → (none && one) ≡ false
@@ -53,11 +51,6 @@ ending false false false enabled x y h = refl
 pub one-not-none : (n : ℕ) → (eqb n 0 && eqb n 1) ≡ false
 one-not-none zero = refl
 one-not-none (suc n) = ap (λ (b : Bool). b && eqb (suc n) 1) (eqb·suc-zero n)
-
-last-sixteenth : (n : ℕ) → n < 16 → ltb n 15 ≡ not (eqb n 15)
-last-sixteenth n h =
-    by-cases (ltb n 15 ≡ not (eqb n 15)) (eqb n 15) (λ e. le-ltb n 15 (omega (arith, eqb-true n 15 e)) ∙ ap not (sym e))
-    (λ e. let ne : n ≡ 15 → ⊥ = eqb-false n 15 e in lt-ltb n 15 (omega arith) ∙ ap not (sym e))
 
 -- ---- The power part
 
@@ -87,7 +80,7 @@ roused-roused s false b ready wakeup stby g = refl
 abbrev matched : Core → Bool
 matched c = AFE (c .rtc .registers) && matches (alarmOf (c .rtc .registers)) (nextSecond c)
 
-module _ (c : Core) (h : c .rtc .sixteenths .0 < 16) {A : Type 0} (f : Core → A)
+module _ (c : Core) {A : Type 0} (f : Core → A)
     (within : (s : Sixteenths) → f (withRtc c (rtc (c .rtc .registers) s (c .rtc .flags) (c .rtc .watchdog))) ≡ f c) where
   -- a view that does not show the sixteenths is as it was, or as the second leaves it
   clock-view : f (clockTicked c) ≡ cond (secondPasses c) (f (secondPassed c)) (f c)
@@ -95,9 +88,9 @@ module _ (c : Core) (h : c .rtc .sixteenths .0 < 16) {A : Type 0} (f : Core → 
   clock-view =
       ap-cond f (stopped (c .rtc .registers)) _ _
       ∙ ap (cond (stopped (c .rtc .registers)) (f c))
-      (ap-cond f (ltb (c .rtc .sixteenths .0) 15) _ _
-      ∙ (λ i. cond (last-sixteenth (c .rtc .sixteenths .0) h i) (within (sixteenths (c .rtc .sixteenths .0 + 1)) i) (f (secondPassed c))))
-      ∙ passing (stopped (c .rtc .registers)) (eqb (c .rtc .sixteenths .0) 15) (f (secondPassed c)) (f c)
+      (ap-cond f (fillsSecond (oneMore (c .rtc .sixteenths))) _ _
+      ∙ ap (cond (fillsSecond (oneMore (c .rtc .sixteenths))) (f (secondPassed c))) (within (oneMore (c .rtc .sixteenths))))
+      ∙ passing (stopped (c .rtc .registers)) (fillsSecond (oneMore (c .rtc .sixteenths))) (f (secondPassed c)) (f c)
 
   -- one that shows neither the flags nor an event has a single value after the second
   module _ (x : A) (beyond : (flags : ℕ) → f (withRtc c (rtc (withClock (c .rtc .registers) (nextSecond c)) (sixteenths 0) flags (c .rtc .watchdog))) ≡ x)
@@ -109,11 +102,11 @@ module _ (c : Core) (h : c .rtc .sixteenths .0 < 16) {A : Type 0} (f : Core → 
     after-clock : f (clockTicked c) ≡ cond (secondPasses c) x (f c)
     after-clock = clock-view ∙ ap (λ (y : A). cond (secondPasses c) y (f c)) after-second
 
-module _ (c : Core) (h : c .rtc .sixteenths .0 < 16) where
+module _ (c : Core) where
   power-clockTicked : (clockTicked c) .power ≡ roused (c .setup) (alarmRises c) (c .power)
   unfolding alarmRises secondPassed
   power-clockTicked =
-      clock-view c h (λ (x : Core). x .power) (λ s. refl)
+      clock-view c (λ (x : Core). x .power) (λ s. refl)
       ∙ ap (λ (p : Power). cond (secondPasses c) p (c .power))
       (ap-cond (λ (x : Core). x .power) (matched c) _ _ ∙ ap (λ (p : Power). cond (matched c) p (c .power)) (power-raised RTC _))
       ∙ both (secondPasses c) (matched c) _ (c .power)
@@ -121,16 +114,16 @@ module _ (c : Core) (h : c .rtc .sixteenths .0 < 16) where
 
   pub registers-clockTicked : (clockTicked c) .rtc .registers ≡ cond (secondPasses c) (withClock (c .rtc .registers) (nextSecond c)) (c .rtc .registers)
   registers-clockTicked =
-      after-clock c h (λ (x : Core). x .rtc .registers) (λ s. refl) _ (λ flags. refl) (λ d. ap (λ (r : Rtc). r .registers) (rtc-raised RTC d))
+      after-clock c (λ (x : Core). x .rtc .registers) (λ s. refl) _ (λ flags. refl) (λ d. ap (λ (r : Rtc). r .registers) (rtc-raised RTC d))
 
   setup-clockTicked : (clockTicked c) .setup ≡ c .setup
-  setup-clockTicked = after-clock c h (λ (x : Core). x .setup) (λ s. refl) (c .setup) (λ flags. refl) (setup-raised RTC) ∙ either (secondPasses c) (c .setup)
+  setup-clockTicked = after-clock c (λ (x : Core). x .setup) (λ s. refl) (c .setup) (λ flags. refl) (setup-raised RTC) ∙ either (secondPasses c) (c .setup)
 
   -- the watchdog's end does not depend on the second
   ends-clockTicked : watchdogEnds (clockTicked c) ≡ watchdogEnds c
   unfolding watchdogEnds
   ends-clockTicked =
-      after-clock c h watchdogEnds (λ s. refl) (watchdogEnds c) (λ flags. simp (with-stopped, with-WDFEn)) (λ d. rw (rtc-raised RTC d)) ∙ either (secondPasses c) (watchdogEnds c)
+      after-clock c watchdogEnds (λ s. refl) (watchdogEnds c) (λ flags. simp (with-stopped, with-WDFEn)) (λ d. rw (rtc-raised RTC d)) ∙ either (secondPasses c) (watchdogEnds c)
 
 -- ---- Second step: the watchdog
 
@@ -186,14 +179,14 @@ module _ (c : Core) where
 
 -- ---- The three steps in order
 
-module _ (c : Core) (h : c .rtc .sixteenths .0 < 16) where
+module _ (c : Core) where
   setup-before : (watchdogTicked (clockTicked c)) .setup ≡ c .setup
-  setup-before = setup-watchdogTicked (clockTicked c) ∙ setup-clockTicked c h
+  setup-before = setup-watchdogTicked (clockTicked c) ∙ setup-clockTicked c
 
   power-before : (watchdogTicked (clockTicked c)) .power ≡ roused (c .setup) (rtcEvent c) (c .power)
   unfolding rtcEvent
   power-before =
-      power-watchdogTicked (clockTicked c) ∙ (λ i. roused (setup-clockTicked c h i) (ends-clockTicked c h i) (power-clockTicked c h i))
+      power-watchdogTicked (clockTicked c) ∙ (λ i. roused (setup-clockTicked c i) (ends-clockTicked c i) (power-clockTicked c i))
       ∙ roused-roused (c .setup) (alarmRises c) (watchdogEnds c) (c .power .ready) (c .power .wakeup) (c .power .stby) (c .power .guard)
 
   pub power-ticked : (ticked c) .power ≡ guarded (c .setup) (roused (c .setup) (rtcEvent c) (c .power))

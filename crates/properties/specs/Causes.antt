@@ -6,6 +6,7 @@ use lib.Dec.{eqb}
 use Rattle.calendar.specs.declared.Clock.{Clock}
 use Rattle.calendar.specs.Carry.{next}
 use Rattle.alarm.specs.Match.{matches}
+use Rattle.units.specs.Units.{oneMore, fillsSecond}
 use Rattle.registers.specs.Names.{stopped, AFE, WDFEn}
 use Rattle.timekeeper.specs.Clock.{clockOf}
 use Rattle.timekeeper.specs.Alarm.{alarmOf}
@@ -15,9 +16,9 @@ use Rattle.controller.specs.Keys.{without}
 
 -- ---- A tick
 
--- the second passes: the oscillator runs, and the last of sixteen sixteenths passes
+-- the second passes: the oscillator runs, and one sixteenth more fills the second
 unfoldable pub secondPasses : Core → Bool
-secondPasses c = not (stopped (c .rtc .registers)) && eqb (c .rtc .sixteenths .0) 15
+secondPasses c = not (stopped (c .rtc .registers)) && fillsSecond (oneMore (c .rtc .sixteenths))
 
 -- the second that is reached then
 abbrev pub nextSecond : Core → Clock

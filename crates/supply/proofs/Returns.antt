@@ -1,18 +1,15 @@
 -- One supply return after another is one after the sum; where the clock stands and when the alarm flag is up. Assumes nothing.
 use Prim.Native.Nat.{ℕ, _+_, _*_, _%_, _/_}
-use mathlib.Core.Path.{_≡_, refl, sym, ap, ap₂, _∙_}
+use mathlib.Core.Path.{_≡_, refl, sym, ap, _∙_}
 use mathlib.Core.Bool.{Bool, true, false, cond, not, _&&_, _||_, or-true, or-false}
 use mathlib.Core.List.{List}
 use native.Mathlib.Omega.{arith}
 use lib.Bits.{bitOr, or-step, or-zero-r}
-use lib.Dec.{eqb}
 use borrow.Author.Tests.{eq-eqb}
 use Rattle.common.specs.Bits.{bitSet}
 use Rattle.common.proofs.Choice.{on-true, on-false, of-cond, by-cases}
-use Rattle.calendar.specs.declared.Clock.{Clock}
 use Rattle.calendar.specs.Clock.{moved}
 use Rattle.calendar.proofs.Moved.{moved-valid, moved-moved}
-use Rattle.alarm.specs.declared.Alarm.{Alarm}
 use Rattle.alarm.specs.Match.{matches}
 use Rattle.alarm.specs.Reached.{anyReached}
 use Rattle.alarm.proofs.Reached.{any-add}
@@ -22,12 +19,12 @@ use Rattle.timekeeper.specs.Alarm.{alarmOf}
 use Rattle.timekeeper.proofs.Clock.{clock-with}
 use Rattle.timekeeper.proofs.Apart.{with-stopped, with-AFE, with-ABE, with-with}
 use Rattle.timekeeper.proofs.Alarm.{with-alarm}
-use Rattle.controller.specs.declared.Rtc.{Rtc}
+use Rattle.controller.specs.declared.Core.{Core}
 use Rattle.controller.specs.State.{rtc, sixteenths, ALARM-FLAG}
 use Rattle.panel.specs.declared.Panel.{Panel}
 use Rattle.panel.specs.State.{withCore}
 use Rattle.panel.specs.PowerUp.{panelPoweredUp}
-use Rattle.supply.specs.Return.{registersReturned, matchCounts, flagsReturned, rtcReturned, coreReturned, panelReturned}
+use Rattle.supply.specs.Return.{registersReturned, matchCounts, flagsReturned, coreReturned, returned, panelReturned}
 
 module _ (rs : List ℕ) where
   -- ---- the two cases of a return
@@ -144,7 +141,9 @@ flag-returned rs n f = by (matchCounts n rs)
     by false = sym (or-false (bitSet f ALARM-FLAG))
 
 -- ---- the whole state
+pub core-add : (c : Core) (m n : ℕ) → returned n (returned m c) ≡ returned (m + n) c
+core-add c m n =
+    ap coreReturned (λ i. rtc (registers-add (c .rtc .registers) m n i) (c .rtc .sixteenths) (flags-add (c .rtc .registers) m n (c .rtc .flags) i) (sixteenths 0))
+
 pub panel-add : (p : Panel) (m n : ℕ) → panelReturned n (panelReturned m p) ≡ panelReturned (m + n) p
-panel-add p m n =
-    ap (λ (x : Rtc). withCore panelPoweredUp (coreReturned x))
-    (λ i. rtc (registers-add (p .core .rtc .registers) m n i) (p .core .rtc .sixteenths) (flags-add (p .core .rtc .registers) m n (p .core .rtc .flags) i) (sixteenths 0))
+panel-add p m n = ap (withCore panelPoweredUp) (core-add (p .core) m n)

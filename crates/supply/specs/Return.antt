@@ -12,7 +12,7 @@ use Rattle.timekeeper.specs.Clock.{clockOf, withClock}
 use Rattle.timekeeper.specs.Alarm.{alarmOf}
 use Rattle.controller.specs.declared.Core.{Core}
 use Rattle.controller.specs.declared.Rtc.{Rtc}
-use Rattle.controller.specs.State.{withRtc, withInterrupt, rtc, sixteenths, RTC, ALARM-FLAG}
+use Rattle.controller.specs.State.{withRtc, withInterrupt, rtc, sixteenths, ALARM-FLAG}
 use Rattle.controller.specs.PowerUp.{poweredUp}
 use Rattle.panel.specs.declared.Panel.{Panel}
 use Rattle.panel.specs.State.{withCore}
@@ -34,7 +34,7 @@ matchCounts n rs = not (stopped rs) && (AFE rs && ABE rs) && anyReached (matches
 unfoldable pub flagsReturned : ℕ → List ℕ → ℕ → ℕ
 flagsReturned n rs flags = cond (matchCounts n rs) (bitOr flags ALARM-FLAG) flags
 
--- registers, flags and sixteenths are kept so far; the watchdog stops
+-- the registers move on with the calendar, the alarm flag may rise, the other flag and the sixteenths are kept; the watchdog stops
 abbrev pub rtcReturned : ℕ → Rtc → Rtc
 rtcReturned n r = rtc (registersReturned n (r .registers)) (r .sixteenths) (flagsReturned n (r .registers) (r .flags)) (sixteenths 0)
 

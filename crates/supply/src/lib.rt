@@ -1,12 +1,15 @@
-// Supply return: the panel at power-up, but for the clock, which moved on over the cut.
+// Supply return: the state at power-up, but for the clock, which moved on over the cut. Here is what both panel kinds share; a module for each
+// kind puts its panel around it.
 ghost use mathlib.Core.Path.{_≡_};
 ghost use Prim.Native.Nat.{_≤_};
 ghost use Rattle.calendar.specs.Clock.{Valid};
 ghost use Rattle.timekeeper.specs.Clock.{clockOf};
-ghost use Rattle.supply.specs.Return.{registersReturned, matchCounts, flagsReturned, rtcReturned, interruptFor, returned, panelReturned};
+ghost use Rattle.supply.specs.Return.{registersReturned, matchCounts, flagsReturned, rtcReturned, interruptFor, returned};
+
+pub mod first_kind;
+
 use controller::Core;
 use controller::Rtc;
-use panel::Panel;
 use units::Seconds;
 use units::Sixteenths;
 
@@ -80,19 +83,16 @@ fn interrupt_for(flags: u8) -> u8
     if common::bit(flags, 1) { 16 } else { 0 }
 }
 
-// The panel after n seconds without supply.
-pub fn return_panel(p: Panel, n: Seconds) -> Panel
-    requires { ⌜ Valid (clockOf (p .core .rtc .registers)) ⌝ }
+// The state that both panel kinds share after n seconds without supply: power-up's, but for the clock and b4.
+pub fn return_core(c: Core, n: Seconds) -> Core
+    requires { ⌜ Valid (clockOf (c .rtc .registers)) ⌝ }
     requires { ⌜ n .0 ≤ 31622400 ⌝ }
-    ensures { λ r. ⌜ r ≡ panelReturned (n .0) p ⌝ }
+    ensures { λ r. ⌜ r ≡ returned (n .0) c ⌝ }
 {
-    let old = p.core;
-    let kept = old.rtc;
+    let kept = c.rtc;
     let rtc = return_rtc(kept, n);
-    let mut up = Panel::power_up();
-    let mut core = up.core;
+    let mut core = Core::power_up();
     core.rtc = rtc;
     core.interrupt = interrupt_for(rtc.flags);
-    up.core = core;
-    up
+    core
 }

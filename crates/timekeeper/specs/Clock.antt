@@ -13,7 +13,7 @@ use Rattle.timekeeper.specs.Bcd.{digits, bcd, decimalTests}
 
 -- ---- Reading
 
--- the bytes 01h..07h, flag and century bits apart
+-- the bytes 01h..07h, flag and century bits apart; b5 of 06h is reserved: a write drops it (`kept` in `registers/Written`), a valid image has it 0 (`reservedTests`)
 abbrev pub fieldBytes : List ℕ → List ℕ
 fieldBytes rs = at rs SECONDS % 128 ∷ at rs MINUTES ∷ at rs HOURS % 64 ∷ at rs WEEKDAY ∷ at rs DATE ∷ at rs MONTH % 64 ∷ at rs YEAR ∷ []
 

@@ -1,22 +1,22 @@
 -- Seconds and sixteenths of a second (document 01, "What is built"): a count of one meets a count of the other only through these.
-use Prim.Native.Nat.{ℕ, _*_, _/_, _%_}
+use Prim.Native.Nat.{ℕ, _+_, _*_}
 use mathlib.Core.Bool.{Bool}
 use lib.Dec.{leb}
 use Rattle.units.specs.declared.Seconds.{Seconds}
 use Rattle.units.specs.declared.Sixteenths.{Sixteenths}
 
--- sixteen to the second
+-- sixteenths in a second
+abbrev pub PER-SECOND : ℕ
+PER-SECOND = 16
+
+-- the same time in sixteenths
 abbrev pub sixteenthsOf : Seconds → Sixteenths
-sixteenthsOf s = record { 0 = 16 * s .0 }
+sixteenthsOf s = record { 0 = PER-SECOND * s .0 }
 
--- the whole seconds in a count of sixteenths
-abbrev pub wholeSeconds : Sixteenths → Seconds
-wholeSeconds x = record { 0 = x .0 / 16 }
-
--- what is left beyond whole seconds
-abbrev pub restOf : Sixteenths → Sixteenths
-restOf x = record { 0 = x .0 % 16 }
+-- the count after the next sixteenth
+abbrev pub oneMore : Sixteenths → Sixteenths
+oneMore x = record { 0 = x .0 + 1 }
 
 -- a whole second is reached
 abbrev pub fillsSecond : Sixteenths → Bool
-fillsSecond x = leb 16 (x .0)
+fillsSecond x = leb PER-SECOND (x .0)

@@ -1,6 +1,9 @@
 // The two units of time and the only conversions between them: the guard value and a supply cut are seconds, the timers run in sixteenths.
 ghost use mathlib.Core.Path.{_≡_};
-ghost use Rattle.units.specs.Units.{sixteenthsOf, restOf, fillsSecond};
+ghost use Rattle.units.specs.Units.{sixteenthsOf, oneMore, fillsSecond};
+
+// Sixteenths in a second.
+const PER_SECOND: u64 = 16;
 
 // A count of seconds.
 pub struct Seconds(pub u32);
@@ -12,19 +15,12 @@ pub struct Sixteenths(pub u64);
 pub fn in_sixteenths(s: Seconds) -> Sixteenths
     ensures { λ r. ⌜ r ≡ sixteenthsOf s ⌝ }
 {
-    Sixteenths(16 * (s.0 as u64))
+    Sixteenths(PER_SECOND * (s.0 as u64))
 }
 
-// Whether a whole second is reached.
-pub fn fills_second(x: Sixteenths) -> bool
-    ensures { λ r. ⌜ r ≡ fillsSecond x ⌝ }
+// Whether the next sixteenth fills a second; asked of the count before it, which may be the greatest there is.
+pub fn fills_with_next(x: Sixteenths) -> bool
+    ensures { λ r. ⌜ r ≡ fillsSecond (oneMore x) ⌝ }
 {
-    16 <= x.0
-}
-
-// What is left beyond whole seconds.
-pub fn rest(x: Sixteenths) -> Sixteenths
-    ensures { λ r. ⌜ r ≡ restOf x ⌝ }
-{
-    Sixteenths(x.0 % 16)
+    PER_SECOND - 1 <= x.0
 }
