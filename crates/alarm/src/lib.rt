@@ -1,7 +1,7 @@
 // The alarm: the match of a second, the first match of a day, and the first match among the seconds reached.
 ghost use mathlib.Core.Path.{_≡_};
 ghost use Prim.Native.Nat.{_-_, _≤_, _<_, min};
-ghost use Rattle.calendar.specs.Clock.{Valid};
+ghost use Rattle.calendar.specs.Clock.{LIMIT, Valid};
 ghost use Rattle.calendar.specs.Carry.{atTime};
 ghost use Rattle.alarm.specs.Search.{firstFrom};
 ghost use Rattle.alarm.specs.Skip.{candidateAfter};
@@ -145,7 +145,7 @@ pub fn first_on_day(a: Alarm, c: Clock, t: u32) -> u32
 // The least k from 1 to n such that the clock moved on k seconds matches, or n + 1: a walk over the days.
 fn walk_days(a: Alarm, c: Clock, n: u32) -> u32
     requires { ⌜ Valid c ⌝ }
-    requires { ⌜ n ≤ 31622400 ⌝ }
+    requires { ⌜ n ≤ LIMIT ⌝ }
     ensures { λ r. ⌜ r ≡ firstReached (matches a) c n ⌝ }
 {
     let start = calendar::time_of(c);
@@ -168,7 +168,7 @@ fn walk_days(a: Alarm, c: Clock, n: u32) -> u32
 // The least count of seconds from 1 to n after which the clock matches, or n + 1; an impossible field costs no walk.
 pub fn first_match(a: Alarm, c: Clock, n: Seconds) -> Seconds
     requires { ⌜ Valid c ⌝ }
-    requires { ⌜ n .0 ≤ 31622400 ⌝ }
+    requires { ⌜ n .0 ≤ LIMIT ⌝ }
     ensures { λ r. ⌜ r .0 ≡ firstReached (matches a) c (n .0) ⌝ }
 {
     let limit = n.0;
@@ -181,7 +181,7 @@ pub fn first_match(a: Alarm, c: Clock, n: Seconds) -> Seconds
 // Whether one of the n seconds reached matches.
 pub fn any_match(a: Alarm, c: Clock, n: Seconds) -> bool
     requires { ⌜ Valid c ⌝ }
-    requires { ⌜ n .0 ≤ 31622400 ⌝ }
+    requires { ⌜ n .0 ≤ LIMIT ⌝ }
     ensures { λ r. ⌜ r ≡ anyReached (matches a) c (n .0) ⌝ }
 {
     let k = first_match(a, c, n);

@@ -9,6 +9,10 @@ use Rattle.calendar.specs.Date.{Dated, dayNumber, yearAt, monthAt, dateA
 abbrev pub cycle : ℕ
 cycle = 86400 * calendarDays
 
+-- the longest time that is moved on at once, in seconds: 366 days ("Refusal numbers", 10)
+abbrev pub LIMIT : ℕ
+LIMIT = 31_622_400
+
 -- century and two digits as one number
 abbrev pub fullYear : Clock → ℕ
 fullYear c = 100 * c .century + c .year

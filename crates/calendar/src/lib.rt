@@ -3,9 +3,12 @@ ghost use mathlib.Core.Path.{_≡_};
 ghost use Prim.Native.Nat.{_≤_, _*_, _+_};
 ghost use mathlib.Core.Bool.{cond};
 ghost use Rattle.calendar.specs.Date.{leap, monthLength};
-ghost use Rattle.calendar.specs.Clock.{Valid, timeOf, moved};
+ghost use Rattle.calendar.specs.Clock.{LIMIT, Valid, timeOf, moved};
 ghost use Rattle.calendar.specs.Carry.{atTime, nextWeekday, nextDay, next};
 use units::Seconds;
+
+// The longest time that is moved on at once, in seconds.
+pub const LIMIT: u32 = 31_622_400;
 
 // Century 0..3, year 00..99, month 1..12, date from 1, weekday 1..7, hour 0..23, minute and second 0..59.
 pub struct Clock {
@@ -128,7 +131,7 @@ pub fn at_time(mut c: Clock, t: u32) -> Clock
 // The clock moved on n seconds: a walk over the midnights passed.
 pub fn move_on(c: Clock, n: Seconds) -> Clock
     requires { ⌜ Valid c ⌝ }
-    requires { ⌜ n .0 ≤ 31622400 ⌝ }
+    requires { ⌜ n .0 ≤ LIMIT ⌝ }
     ensures { λ r. ⌜ r ≡ moved c (n .0) ⌝ }
 {
     let end = time_of(c) + n.0;

@@ -2,7 +2,7 @@
 ghost use mathlib.Core.Path.{_≡_};
 ghost use Prim.Native.Nat.{_≤_};
 ghost use lib.ListN.{length};
-ghost use Rattle.calendar.specs.Clock.{Valid};
+ghost use Rattle.calendar.specs.Clock.{LIMIT, Valid};
 ghost use Rattle.timekeeper.specs.Clock.{clockOf};
 ghost use Rattle.controller.specs.Tick.{ticked};
 ghost use Rattle.controller.specs.Keys.{sampled};
@@ -92,7 +92,7 @@ pub fn receive_key(image: &mut [u8], address: u8, command: u8)
 pub fn return_supply(image: &mut [u8], n: Seconds)
     requires { ⌜ length (now image) ≡ 64 ⌝ }
     requires { ⌜ Valid (clockOf (decoded (now image) .core .rtc .registers)) ⌝ }
-    requires { ⌜ n .0 ≤ 31622400 ⌝ }
+    requires { ⌜ n .0 ≤ LIMIT ⌝ }
     ensures { λ _. ⌜ now (image .exit) ≡ encoded (panelReturned (n .0) (decoded (now (image .entry)))) ⌝ }
 {
     let p = panel_in(image);

@@ -9,7 +9,7 @@ use Rattle.common.specs.Bits.{bitSet}
 use Rattle.common.specs.Grounds.{firstGround}
 use Rattle.common.proofs.Choice.{on-true, on-false, of-cond, by-cases}
 use Rattle.calendar.specs.declared.Clock.{Clock}
-use Rattle.calendar.specs.Clock.{Valid, count, cycle, multiples, weekdayOn, moved}
+use Rattle.calendar.specs.Clock.{LIMIT, Valid, count, cycle, multiples, weekdayOn, moved}
 use Rattle.calendar.proofs.Moved.{moved-valid, moved-none, moved-moved, count-moved, weekday-moved}
 use Rattle.alarm.specs.Match.{matches}
 use Rattle.alarm.specs.Reached.{anyReached}
@@ -23,7 +23,7 @@ use Rattle.image.specs.Image.{registersIn, decoded}
 use Rattle.image.specs.Layout.{FLAGS, byteAt, Bytes}
 use Rattle.validity.specs.Valid.{isValid}
 use Rattle.validity.proofs.Laws.{sound}
-use Rattle.supply.specs.Return.{LIMIT, registersReturned, matchCounts, flagsReturned}
+use Rattle.supply.specs.Return.{registersReturned, matchCounts, flagsReturned}
 use Rattle.supply.proofs.Returns.{clock-stopped, clock-running, flag-returned}
 use Rattle.stled325.specs.Outcome.{outcome}
 use Rattle.stled325.specs.Calls.{supplyGrounds, imageReturned, supplyReturnCall}

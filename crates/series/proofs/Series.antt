@@ -12,7 +12,7 @@ use Rattle.common.specs.Bits.{bitSet}
 use Rattle.common.specs.Grounds.{Ground, ground, firstGround}
 use Rattle.common.proofs.Choice.{on-true, on-false, of-cond, by-cases}
 use Rattle.calendar.specs.declared.Clock.{Clock}
-use Rattle.calendar.specs.Clock.{Valid, count, cycle, multiples, weekdayOn, moved}
+use Rattle.calendar.specs.Clock.{LIMIT, Valid, count, cycle, multiples, weekdayOn, moved}
 use Rattle.calendar.proofs.Moved.{moved-none, moved-moved, count-moved, weekday-moved}
 use Rattle.registers.specs.Names.{stopped}
 use Rattle.timekeeper.specs.Clock.{clockOf}
@@ -26,7 +26,7 @@ use Rattle.image.proofs.Laws.{decode-encode}
 use Rattle.image.proofs.Bytes.{encoded-length, encoded-bytes}
 use Rattle.validity.specs.Valid.{isValid}
 use Rattle.validity.proofs.Laws.{valid-length, sound, valid-encoded}
-use Rattle.supply.specs.Return.{LIMIT, registersReturned, matchCounts, flagsReturned, panelReturned}
+use Rattle.supply.specs.Return.{registersReturned, matchCounts, flagsReturned, panelReturned}
 use Rattle.supply.proofs.Sound.{sound-returned}
 use Rattle.supply.proofs.Returns.{clock-stopped, clock-running, flag-returned, panel-add}
 use Rattle.stled325.specs.Outcome.{Outcome, outcome}

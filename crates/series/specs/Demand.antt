@@ -8,7 +8,7 @@ use lib.Dec.{eqb}
 use Rattle.common.specs.Bits.{bitSet}
 use Rattle.common.specs.Grounds.{firstGround}
 use Rattle.calendar.specs.declared.Clock.{Clock}
-use Rattle.calendar.specs.Clock.{count, cycle, multiples, weekdayOn}
+use Rattle.calendar.specs.Clock.{LIMIT, count, cycle, multiples, weekdayOn}
 use Rattle.alarm.specs.Match.{matches}
 use Rattle.alarm.specs.Reached.{anyReached}
 use Rattle.registers.specs.Names.{stopped, AFE, ABE}
@@ -18,7 +18,6 @@ use Rattle.controller.specs.State.{ALARM-FLAG}
 use Rattle.image.specs.Image.{registersIn}
 use Rattle.image.specs.Layout.{FLAGS, byteAt}
 use Rattle.validity.specs.Valid.{isValid}
-use Rattle.supply.specs.Return.{LIMIT}
 use Rattle.stled325.specs.Outcome.{outcome}
 use Rattle.stled325.specs.Calls.{supplyGrounds, imageReturned, supplyReturnCall}
 use Rattle.series.specs.Series.{imageAfter, numbers, noted, within, total, someAccepted, plainClock}

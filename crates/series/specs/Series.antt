@@ -4,8 +4,7 @@ use mathlib.Core.Bool.{Bool, false, cond, not, _&&_, _||_}
 use mathlib.Core.List.{List, [], _∷_}
 use lib.Dec.{leb}
 use Rattle.calendar.specs.declared.Clock.{Clock}
-use Rattle.calendar.specs.Clock.{moved}
-use Rattle.supply.specs.Return.{LIMIT}
+use Rattle.calendar.specs.Clock.{LIMIT, moved}
 use Rattle.stled325.specs.Calls.{supplyReturnCall}
 
 -- the image after the series

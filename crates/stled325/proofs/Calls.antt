@@ -19,10 +19,9 @@ use Rattle.panel.specs.PowerUp.{panelPoweredUp}
 use Rattle.image.specs.Image.{decoded, encoded}
 use Rattle.validity.specs.Valid.{isValid}
 use Rattle.validity.proofs.Laws.{valid-length, sound}
-use Rattle.calendar.specs.Clock.{Valid}
+use Rattle.calendar.specs.Clock.{LIMIT, Valid}
 use Rattle.timekeeper.specs.Clock.{clockOf}
 use Rattle.properties.proofs.SoundParts.{valid-clock-of}
-use Rattle.supply.specs.Return.{LIMIT}
 use Rattle.events.specs.Show.{shownIn}
 use Rattle.stled325.specs.Outcome.{outcome, decided, invalid}
 use Rattle.stled325.specs.Calls.{powerUpGrounds, powerUpCall, eventGrounds, imageAfter, eventCall, received, isNoKey, keyedBy, frameGrounds, frameCall, supplyGrounds, imageReturned, supplyReturnCall, viewGrounds, showCall, linesIn, linesCall}
@@ -76,15 +75,15 @@ module _ (l : List ℕ) (v : Bool) (e : v ≡ isValid l) where
 
   -- ---- supply return
   module _ (h : not v ≡ false) (n : ℕ) where
-    pub return-refused : 31622400 < n → outcome 10 l [] ≡ supplyReturnCall l n
+    pub return-refused : LIMIT < n → outcome 10 l [] ≡ supplyReturnCall l n
     return-refused g =
         refused (supplyGrounds l n) l [] (imageReturned l n) [] 10 (λ (z : _≡_ {A = ℕ} 10 0). omega arith)
         (first-holds (ltb LIMIT n) 10 [] (lt-ltb LIMIT n g) ∙ first-passed (not (isValid l)) 1 (ground 10 (ltb LIMIT n) ∷ []) (good h))
 
-    pub return-done : n ≤ 31622400 → (m : List ℕ) → m ≡ imageReturned l n → outcome 0 m [] ≡ supplyReturnCall l n
+    pub return-done : n ≤ LIMIT → (m : List ℕ) → m ≡ imageReturned l n → outcome 0 m [] ≡ supplyReturnCall l n
     return-done g m em = ap (λ (y : List ℕ). outcome 0 y []) em ∙ accepted (supplyGrounds l n) l [] (imageReturned l n) [] (good h, (le-ltb LIMIT n g, tt))
 
-    pub return-allowed : n ≤ 31622400 → ((i : ℕ) → getD l i 0 < 256) → (length l ≡ 64) × (Valid (clockOf (decoded l .core .rtc .registers)) × (n ≤ 31622400))
+    pub return-allowed : n ≤ LIMIT → ((i : ℕ) → getD l i 0 < 256) → (length l ≡ 64) × (Valid (clockOf (decoded l .core .rtc .registers)) × (n ≤ LIMIT))
     return-allowed g small = (sized h, (valid-clock-of (sound l (sym e ∙ not-false v h) small .core .rtc), g))
 
   -- ---- show and lines

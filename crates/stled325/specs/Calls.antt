@@ -5,6 +5,7 @@ use mathlib.Core.List.{List, [], _∷_}
 use lib.Dec.{eqb, ltb}
 use lib.ListN.{length}
 use Rattle.common.specs.Grounds.{Ground, ground}
+use Rattle.calendar.specs.Clock.{LIMIT}
 use Rattle.remote.specs.declared.Received.{Received}
 use Rattle.remote.specs.declared.Received.the-variants.{Key, NoKey}
 use Rattle.remote.specs.Frame.{keyOf}
@@ -17,7 +18,7 @@ use Rattle.display.specs.Lines.{linesOf}
 use Rattle.panel.specs.declared.Panel.{Panel}
 use Rattle.panel.specs.State.{onCore}
 use Rattle.panel.specs.PowerUp.{panelPoweredUp}
-use Rattle.supply.specs.Return.{LIMIT, panelReturned}
+use Rattle.supply.specs.Return.{panelReturned}
 use Rattle.image.specs.Layout.{SIZE}
 use Rattle.image.specs.Image.{decoded, encoded}
 use Rattle.events.specs.Show.{shownIn}

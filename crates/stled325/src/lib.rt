@@ -101,7 +101,7 @@ pub extern "C" fn stled325_supply_return(image: &mut [u8], seconds: u32) -> u32
     if !validity::is_valid(image) {
         return 1;
     }
-    if seconds > supply::LIMIT {
+    if seconds > calendar::LIMIT {
         return 10;
     }
     let n = Seconds(seconds);

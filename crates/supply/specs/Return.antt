@@ -18,10 +18,6 @@ use Rattle.panel.specs.declared.Panel.{Panel}
 use Rattle.panel.specs.State.{withCore}
 use Rattle.panel.specs.PowerUp.{panelPoweredUp}
 
--- the longest cut that a return takes, in seconds
-abbrev pub LIMIT : ℕ
-LIMIT = 31_622_400
-
 -- the calendar moves on n seconds unless the oscillator is stopped
 unfoldable pub registersReturned : ℕ → List ℕ → List ℕ
 registersReturned n rs = cond (stopped rs) rs (withClock rs (moved (clockOf rs) n))

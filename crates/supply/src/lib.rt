@@ -2,7 +2,7 @@
 // kind puts its panel around it.
 ghost use mathlib.Core.Path.{_≡_};
 ghost use Prim.Native.Nat.{_≤_};
-ghost use Rattle.calendar.specs.Clock.{Valid};
+ghost use Rattle.calendar.specs.Clock.{LIMIT, Valid};
 ghost use Rattle.timekeeper.specs.Clock.{clockOf};
 ghost use Rattle.supply.specs.Return.{registersReturned, matchCounts, flagsReturned, rtcReturned, interruptFor, returned};
 
@@ -13,13 +13,10 @@ use controller::Rtc;
 use units::Seconds;
 use units::Sixteenths;
 
-// The longest cut that a return takes, in seconds.
-pub const LIMIT: u32 = 31_622_400;
-
 // The registers after n seconds without supply.
 fn return_registers(registers: [u8; 16], n: Seconds) -> [u8; 16]
     requires { ⌜ Valid (clockOf registers) ⌝ }
-    requires { ⌜ n .0 ≤ 31622400 ⌝ }
+    requires { ⌜ n .0 ≤ LIMIT ⌝ }
     ensures { λ r. ⌜ r ≡ registersReturned (n .0) registers ⌝ }
 {
     if registers::is_stopped(registers) {
@@ -32,7 +29,7 @@ fn return_registers(registers: [u8; 16], n: Seconds) -> [u8; 16]
 // Whether a match of one of the n seconds reached counts: the oscillator runs and both alarm bits are set.
 fn match_counts(registers: [u8; 16], n: Seconds) -> bool
     requires { ⌜ Valid (clockOf registers) ⌝ }
-    requires { ⌜ n .0 ≤ 31622400 ⌝ }
+    requires { ⌜ n .0 ≤ LIMIT ⌝ }
     ensures { λ r. ⌜ r ≡ matchCounts (n .0) registers ⌝ }
 {
     if registers::is_stopped(registers) {
@@ -48,7 +45,7 @@ fn match_counts(registers: [u8; 16], n: Seconds) -> bool
 // The flags after n seconds without supply.
 fn return_flags(registers: [u8; 16], flags: u8, n: Seconds) -> u8
     requires { ⌜ Valid (clockOf registers) ⌝ }
-    requires { ⌜ n .0 ≤ 31622400 ⌝ }
+    requires { ⌜ n .0 ≤ LIMIT ⌝ }
     ensures { λ r. ⌜ r ≡ flagsReturned (n .0) registers flags ⌝ }
 {
     if match_counts(registers, n) {
@@ -60,7 +57,7 @@ fn return_flags(registers: [u8; 16], flags: u8, n: Seconds) -> u8
 // The clock's part of the state; the watchdog stops.
 fn return_rtc(r: Rtc, n: Seconds) -> Rtc
     requires { ⌜ Valid (clockOf (r .registers)) ⌝ }
-    requires { ⌜ n .0 ≤ 31622400 ⌝ }
+    requires { ⌜ n .0 ≤ LIMIT ⌝ }
     ensures { λ r′. ⌜ r′ ≡ rtcReturned (n .0) r ⌝ }
 {
     let registers = r.registers;
@@ -86,7 +83,7 @@ fn interrupt_for(flags: u8) -> u8
 // The state that both panel kinds share after n seconds without supply: power-up's, but for the clock and b4.
 pub fn return_core(c: Core, n: Seconds) -> Core
     requires { ⌜ Valid (clockOf (c .rtc .registers)) ⌝ }
-    requires { ⌜ n .0 ≤ 31622400 ⌝ }
+    requires { ⌜ n .0 ≤ LIMIT ⌝ }
     ensures { λ r. ⌜ r ≡ returned (n .0) c ⌝ }
 {
     let kept = c.rtc;
