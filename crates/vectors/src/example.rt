@@ -5,6 +5,7 @@
 use crate::calls;
 use crate::report;
 use crate::text;
+use bytes::scan::find;
 use stled325::stled325_power_up;
 ghost use Prim.Native.Nat.{_≤_};
 
@@ -58,7 +59,7 @@ fn failed(line: &[u8]) -> u8 {
 
 // Changes both images.
 fn given(line: &[u8], images: &mut [u8], status: u8) -> u8 {
-    let changes = text::part(line, text::find(line, b' '), line.len());
+    let changes = text::part(line, find(line, 0, line.len(), b' '), line.len());
     let end = text::fill(changes, images, 0);
     text::fill(changes, images, IMAGE);
     if end == text::UNREADABLE {
@@ -123,9 +124,9 @@ fn is_right(images: &[u8]) -> bool {
 
 // Makes the call of a line and compares.
 fn call(line: &[u8], word: u8, images: &mut [u8], status: u8) -> u8 {
-    let space = text::find(line, b' ');
-    let arrow = text::find(line, b'>');
-    let bar = text::find(line, b'|');
+    let space = find(line, 0, line.len(), b' ');
+    let arrow = find(line, 0, line.len(), b'>');
+    let bar = find(line, 0, line.len(), b'|');
     let end = text::fill(text::part(line, bar, line.len()), images, IMAGE);
     let answered = is_answered(
         word,

@@ -5,6 +5,7 @@ mod example;
 mod report;
 mod text;
 
+use bytes::scan::find;
 use libc::STDIN_FILENO;
 
 // Runs the lines one after the other.
@@ -13,7 +14,7 @@ fn run(script: &[u8], images: &mut [u8]) {
     let mut at = 0;
     while at < script.len() {
         let rest = &script[at..];
-        let end = text::find(rest, b'\n');
+        let end = find(rest, 0, rest.len(), b'\n');
         status = example::run_line(&rest[0..end], images, status);
         at += end + 1;
     }

@@ -1,6 +1,5 @@
 // The text of a line: numbers, and bytes as pairs of hexadecimal digits.
 ghost use Prim.Native.Nat.{_≤_};
-ghost use lib.ListN.{length};
 
 // What is no digit.
 const NONE: u8 = 16;
@@ -20,20 +19,6 @@ fn digit(c: u8) -> u8
         b'A'..=b'F' => c - b'A' + 10,
         _ => NONE,
     }
-}
-
-// The first place of a character, or the length.
-pub fn find(text: &[u8], c: u8) -> usize
-    ensures { λ r. ⌜ r ≤ length (now (text .entry)) ⌝ }
-{
-    let mut i = 0;
-    while i < text.len() {
-        if text[i] == c {
-            return i;
-        }
-        i += 1;
-    }
-    i
 }
 
 // A part of a text, empty where it is none.
