@@ -15,7 +15,7 @@ use stled325::stled325_wake_up;
 const NONE: u32 = 99;
 
 // Ticks up to the first refusal.
-fn ticks(image: &mut [u8], n: u64) -> u32 {
+fn ticks(image: &mut [u8], n: u32) -> u32 {
     let mut i = 0;
     while i < n {
         let number = stled325_tick(image);
@@ -37,16 +37,15 @@ fn command(image: &mut [u8], arguments: &[u8], out: &mut [u8]) -> u32 {
 }
 
 // An event of a word.
-fn event(word: u8, image: &mut [u8], n: u64) -> u32 {
-    let value = (n % 4_294_967_296) as u32;
+fn event(word: u8, image: &mut [u8], n: u32) -> u32 {
     match word {
-        b'f' => stled325_remote_frame(image, value),
+        b'f' => stled325_remote_frame(image, n),
         b'k' => stled325_key_sample(image, (n % 65_536) as u16),
-        b'o' => stled325_supply_return(image, value),
+        b'o' => stled325_supply_return(image, n),
         b'p' => stled325_power_up(image),
-        b'r' => stled325_ready(image, value),
+        b'r' => stled325_ready(image, n),
         b't' => ticks(image, n),
-        b'w' => stled325_wake_up(image, value),
+        b'w' => stled325_wake_up(image, n),
         _ => NONE,
     }
 }
@@ -54,10 +53,10 @@ fn event(word: u8, image: &mut [u8], n: u64) -> u32 {
 // An event with the number that its arguments write; of ticks and of an outage it is decimal.
 fn event_after(word: u8, image: &mut [u8], arguments: &[u8]) -> u32 {
     let n = text::number(arguments, (word == b't') | (word == b'o'));
-    if n == text::NO_NUMBER {
+    if n > 4_294_967_295 {
         return NONE;
     }
-    event(word, image, n)
+    event(word, image, (n % 4_294_967_296) as u32)
 }
 
 // The call of a word, which is known by its first letter.

@@ -7,7 +7,6 @@ use crate::report;
 use crate::text;
 use bytes::scan::find;
 use stled325::stled325_power_up;
-ghost use Prim.Native.Nat.{_≤_};
 
 // No example is open; one is, and all went as written; one is, and failed.
 pub const NONE: u8 = 0;
@@ -42,7 +41,8 @@ fn reset(image: &mut [u8]) {
 }
 
 // The title prints, and both images start from power-up.
-fn open(line: &[u8], images: &mut [u8]) -> u8 {
+fn open(line: &[u8], images: &mut [u8], status: u8) -> u8 {
+    close(status);
     report::print(line);
     reset(images);
     if IMAGE <= images.len() {
@@ -59,7 +59,8 @@ fn failed(line: &[u8]) -> u8 {
 
 // Changes both images.
 fn given(line: &[u8], images: &mut [u8], status: u8) -> u8 {
-    let changes = text::part(line, find(line, 0, line.len(), b' '), line.len());
+    let space = find(line, 0, line.len(), b' ');
+    let changes = &line[space..];
     let end = text::fill(changes, images, 0);
     text::fill(changes, images, IMAGE);
     if end == text::UNREADABLE {
@@ -69,28 +70,7 @@ fn given(line: &[u8], images: &mut [u8], status: u8) -> u8 {
     }
 }
 
-// A number below 100 as two decimal digits.
-fn coded(n: u32) -> u8 {
-    (n / 10 % 10 * 16 + n % 10) as u8
-}
-
-fn at_most(x: u8, most: usize) -> usize
-    ensures { λ r. ⌜ r ≤ most ⌝ }
-{
-    let n = x as usize;
-    if n < most { n } else { most }
-}
-
-// Makes the call.
-fn made(word: u8, arguments: &[u8], images: &mut [u8], out: &mut [u8]) -> u32 {
-    if images.len() <= LENT {
-        return 0;
-    }
-    let lent = at_most(images[LENT], LENT);
-    calls::call(word, &mut images[0..lent], arguments, out)
-}
-
-// Makes the call; its number, and then its output up to a place, are what is got.
+// Makes the call; its number as two decimal digits, and then its output up to a place, are what is got.
 fn make(word: u8, arguments: &[u8], images: &mut [u8], got: &mut [u8], end: usize) {
     if end < 1 {
         return;
@@ -98,18 +78,22 @@ fn make(word: u8, arguments: &[u8], images: &mut [u8], got: &mut [u8], end: usiz
     if got.len() < end {
         return;
     }
-    let number = made(word, arguments, images, &mut got[1..end]);
-    text::store(got, 0, coded(number));
+    if images.len() <= LENT {
+        return;
+    }
+    let lent = (images[LENT] % 66) as usize;
+    let number = calls::call(word, &mut images[0..lent], arguments, &mut got[1..end]);
+    text::store(got, 0, (number / 10 % 10 * 16 + number % 10) as u8);
 }
 
 // Whether the call gives the number and the output that are written. EEh stands in the output where nothing is written.
 fn is_answered(word: u8, arguments: &[u8], answer: &[u8], images: &mut [u8]) -> bool {
     let mut written = [0xEEu8; 25];
-    let mut got = [0xEEu8; 25];
     let end = text::fill(answer, &mut written, 0);
     if (end < 1) | (end > 25) {
         return false;
     }
+    let mut got = [0xEEu8; 25];
     make(word, arguments, images, &mut got, end);
     report::are_same(b" >", &got, &written)
 }
@@ -124,16 +108,11 @@ fn is_right(images: &[u8]) -> bool {
 
 // Makes the call of a line and compares.
 fn call(line: &[u8], word: u8, images: &mut [u8], status: u8) -> u8 {
-    let space = find(line, 0, line.len(), b' ');
-    let arrow = find(line, 0, line.len(), b'>');
     let bar = find(line, 0, line.len(), b'|');
-    let end = text::fill(text::part(line, bar, line.len()), images, IMAGE);
-    let answered = is_answered(
-        word,
-        text::part(line, space, arrow),
-        text::part(line, arrow, bar),
-        images,
-    );
+    let arrow = find(line, 0, bar, b'>');
+    let space = find(line, 0, arrow, b' ');
+    let end = text::fill(&line[bar..], images, IMAGE);
+    let answered = is_answered(word, &line[space..arrow], &line[arrow..bar], images);
     let right = is_right(images);
     if answered & right & (end != text::UNREADABLE) {
         status
@@ -151,10 +130,7 @@ pub fn run_line(line: &[u8], images: &mut [u8], status: u8) -> u8 {
     match word {
         b'#' => status,
         b'g' => given(line, images, status),
-        b'0'..=b'9' => {
-            close(status);
-            open(line, images)
-        }
+        b'0'..=b'9' => open(line, images, status),
         _ => call(line, word, images, status),
     }
 }

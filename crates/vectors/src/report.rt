@@ -1,5 +1,4 @@
 // What the program prints.
-use crate::text;
 use libc::STDOUT_FILENO;
 
 pub fn print(text: &[u8]) {
@@ -13,7 +12,7 @@ fn is_same(mark: &[u8], at: usize, got: u8, want: u8) -> bool {
     print(mark);
     io::print_decimal(STDOUT_FILENO, at as u64);
     print(b" ");
-    io::print_hex(STDOUT_FILENO, text::wide(got), 2);
+    io::print_hex(STDOUT_FILENO, got as u64, 2);
     false
 }
 

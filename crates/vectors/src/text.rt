@@ -7,8 +7,8 @@ const NONE: u8 = 16;
 // What fill answers where a text has anything but bytes and places.
 pub const UNREADABLE: usize = 1000;
 
-// What number answers where a text has anything but digits of its base.
-pub const NO_NUMBER: u64 = 1_000_000_000_000;
+// What number answers where a text has anything but digits of its base; more than 32 bits.
+const NO_NUMBER: u64 = 1_000_000_000_000;
 
 // The value of a hexadecimal digit.
 fn digit(c: u8) -> u8
@@ -21,30 +21,13 @@ fn digit(c: u8) -> u8
     }
 }
 
-// A part of a text, empty where it is none.
-pub fn part(text: &[u8], from: usize, to: usize) -> &[u8] {
-    if from > to {
-        return &text[0..0];
-    }
-    if to > text.len() {
-        return &text[0..0];
-    }
-    &text[from..to]
-}
-
-pub fn wide(d: u8) -> u64
-    ensures { λ r. ⌜ r ≤ 255 ⌝ }
-{
-    d as u64
-}
-
 // A number with a further digit.
 fn with_digit(number: u64, d: u8, decimal: bool) -> u64 {
     let n = number % 4_294_967_296;
     if decimal {
-        n * 10 + wide(d)
+        n * 10 + (d as u64)
     } else {
-        n * 16 + wide(d)
+        n * 16 + (d as u64)
     }
 }
 
