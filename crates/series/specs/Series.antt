@@ -2,7 +2,7 @@
 use Prim.Native.Nat.{ℕ, _+_}
 use mathlib.Core.Bool.{Bool, false, cond, not, _&&_, _||_}
 use mathlib.Core.List.{List, [], _∷_}
-use lib.Dec.{leb}
+use lib.Dec.{eqb, leb}
 use Rattle.calendar.specs.declared.Clock.{Clock}
 use Rattle.calendar.specs.Clock.{LIMIT, moved}
 use Rattle.stled325.specs.Calls.{supplyReturnCall}
@@ -31,6 +31,12 @@ within n = leb n LIMIT
 unfoldable pub total : List ℕ → ℕ
 total [] = 0
 total (n ∷ ns) = cond (within n) n 0 + total ns
+
+-- the sum of the n whose return has number 0, the numbers given
+unfoldable pub sumAccepted : List ℕ → List ℕ → ℕ
+sumAccepted [] ns = 0
+sumAccepted (k ∷ ks) [] = 0
+sumAccepted (k ∷ ks) (n ∷ ns) = cond (eqb k 0) n 0 + sumAccepted ks ns
 
 -- at least one return is accepted, from a valid image
 unfoldable pub someAccepted : List ℕ → Bool
