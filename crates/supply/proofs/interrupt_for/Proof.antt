@@ -1,4 +1,4 @@
--- `supply::interrupt_for` meets its contract.
+-- `supply::interrupt_for` meets its contract. Assumes nothing.
 use mathlib.Core.Path.{_≡_, sym, _∙_}
 use mathlib.Core.Bool.{Bool, true, false}
 use Prim.Native.Nat.{ℕ}

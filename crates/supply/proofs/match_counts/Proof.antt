@@ -1,4 +1,4 @@
--- `supply::match_counts` meets its contract.
+-- `supply::match_counts` meets its contract. Assumes nothing.
 use mathlib.Core.Path.{_≡_, sym, subst, _∙_}
 use mathlib.Core.Bool.{Bool, true, false, not, _&&_}
 use mathlib.Core.List.{List}

@@ -1,4 +1,4 @@
--- `supply::return_core` meets its contract.
+-- `supply::return_core` meets its contract. Assumes nothing.
 use mathlib.Core.Path.{_≡_, ap, _∙_}
 use Prim.Native.Nat.{ℕ}
 use borrow.Author.Needs.{needs}

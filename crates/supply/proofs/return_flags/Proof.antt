@@ -1,4 +1,4 @@
--- `supply::return_flags` meets its contract.
+-- `supply::return_flags` meets its contract. Assumes nothing.
 use mathlib.Core.Path.{_≡_, sym, _∙_}
 use mathlib.Core.Bool.{Bool, true, false}
 use mathlib.Core.List.{List}

@@ -1,4 +1,4 @@
--- `supply::return_registers` meets its contract.
+-- `supply::return_registers` meets its contract. Assumes nothing.
 use mathlib.Core.Path.{_≡_, sym, ap, subst, _∙_}
 use mathlib.Core.Bool.{Bool, true, false}
 use mathlib.Core.List.{List}

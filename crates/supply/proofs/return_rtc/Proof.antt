@@ -1,4 +1,4 @@
--- `supply::return_rtc` meets its contract.
+-- `supply::return_rtc` meets its contract. Assumes nothing.
 use mathlib.Core.Path.{_≡_}
 use mathlib.Core.List.{List}
 use Prim.Native.Nat.{ℕ}

@@ -1,4 +1,4 @@
--- `controller::Core::count_presses` meets its contract.
+-- `controller::Core::count_presses` meets its contract. Assumes nothing.
 use mathlib.Core.Path.{_≡_, sym, _∙_}
 use mathlib.Core.Bool.{Bool, true, false, not}
 use Prim.Native.Nat.{ℕ}

@@ -1,4 +1,4 @@
--- `controller::Core::end_standby` meets its contract: the guard loads by the conversion.
+-- `controller::Core::end_standby` meets its contract: the guard loads by the conversion. Assumes nothing.
 use mathlib.Core.Path.{_≡_, ap}
 use mathlib.Core.Bool.{false}
 use borrow.Author.Needs.{needs}

@@ -1,4 +1,4 @@
--- `controller::Core::pass_second` meets its contract: with a match and without.
+-- `controller::Core::pass_second` meets its contract: with a match and without. Assumes nothing.
 use mathlib.Core.Path.{_≡_, sym, ap, _∙_}
 use mathlib.Core.Bool.{Bool, true, false, _&&_}
 use mathlib.Core.List.{List}

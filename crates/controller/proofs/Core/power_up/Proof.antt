@@ -1,4 +1,4 @@
--- `controller::Core::power_up` meets its contract: the guard value of 10 seconds is 160 sixteenths.
+-- `controller::Core::power_up` meets its contract: the guard value of 10 seconds is 160 sixteenths. Assumes nothing.
 use mathlib.Core.Path.{_≡_, ap, _∙_}
 use mathlib.Core.Bool.{false}
 use borrow.Author.Needs.{needs}

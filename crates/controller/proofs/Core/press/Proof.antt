@@ -1,4 +1,4 @@
--- `controller::Core::press` meets its contract.
+-- `controller::Core::press` meets its contract. Assumes nothing.
 use mathlib.Core.Path.{_≡_, ap, _∙_}
 use Prim.Native.Nat.{ℕ}
 use lib.Bits.{bitOr}

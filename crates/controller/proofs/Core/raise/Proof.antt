@@ -1,4 +1,4 @@
--- `controller::Core::raise` meets its contract.
+-- `controller::Core::raise` meets its contract. Assumes nothing.
 use mathlib.Core.Path.{_≡_, _∙_}
 use mathlib.Core.Bool.{true, false}
 use Prim.Native.Nat.{ℕ, _*_}

@@ -1,4 +1,4 @@
--- `controller::Core::receive_key` meets its contract.
+-- `controller::Core::receive_key` meets its contract. Assumes nothing.
 use mathlib.Core.Path.{_≡_, sym, _∙_}
 use mathlib.Core.Bool.{Bool, true, false, not, _&&_}
 use Prim.Native.Nat.{ℕ}

@@ -1,4 +1,4 @@
--- `controller::Core::sample_keys` meets its contract.
+-- `controller::Core::sample_keys` meets its contract. Assumes nothing.
 use mathlib.Core.Path.{_≡_, sym, ap, _∙_}
 use Prim.Native.Nat.{ℕ}
 use borrow.Author.Needs.{needs}

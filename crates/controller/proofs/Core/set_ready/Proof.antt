@@ -1,4 +1,4 @@
--- `controller::Core::set_ready` meets its contract.
+-- `controller::Core::set_ready` meets its contract. Assumes nothing.
 use mathlib.Core.Path.{_≡_, sym, ap, _∙_}
 use mathlib.Core.Bool.{Bool, true, false, Bool·beq}
 use borrow.Author.Needs.{needs}

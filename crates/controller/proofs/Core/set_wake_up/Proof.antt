@@ -1,4 +1,4 @@
--- `controller::Core::set_wake_up` meets its contract.
+-- `controller::Core::set_wake_up` meets its contract. Assumes nothing.
 use mathlib.Core.Path.{_≡_, sym, _∙_}
 use mathlib.Core.Bool.{Bool, true, false, _&&_, Bool·beq}
 use borrow.Author.Needs.{needs}

@@ -1,4 +1,4 @@
--- `controller::Core::tick` meets its contract: the three steps in order.
+-- `controller::Core::tick` meets its contract: the three steps in order. Assumes nothing.
 use mathlib.Core.Path.{_≡_, ap, _∙_}
 use borrow.Author.Needs.{needs}
 use Rattle.controller.specs.declared.Core.{Core}

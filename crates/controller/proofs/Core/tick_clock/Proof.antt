@@ -1,4 +1,4 @@
--- `controller::Core::tick_clock` meets its contract.
+-- `controller::Core::tick_clock` meets its contract. Assumes nothing.
 use mathlib.Core.Path.{_≡_, sym, _∙_}
 use mathlib.Core.Bool.{Bool, true, false}
 use Prim.Native.Nat.{_+_, _^_, _<_}

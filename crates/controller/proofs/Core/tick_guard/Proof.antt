@@ -1,4 +1,4 @@
--- `controller::Core::tick_guard` meets its contract.
+-- `controller::Core::tick_guard` meets its contract. Assumes nothing.
 use mathlib.Core.Path.{_≡_, sym, _∙_}
 use mathlib.Core.Bool.{Bool, true, false, _&&_}
 use Prim.Native.Nat.{ℕ, _-_}

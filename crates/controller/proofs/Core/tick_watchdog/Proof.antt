@@ -1,4 +1,4 @@
--- `controller::Core::tick_watchdog` meets its contract.
+-- `controller::Core::tick_watchdog` meets its contract. Assumes nothing.
 use mathlib.Core.Path.{_≡_, sym, ap, _∙_}
 use mathlib.Core.Bool.{Bool, true, false, _&&_, _||_, or-true}
 use Prim.Native.Nat.{ℕ, _-_}

@@ -1,4 +1,4 @@
--- `supply::first_kind::return_panel` meets its contract.
+-- `supply::first_kind::return_panel` meets its contract. Assumes nothing.
 use mathlib.Core.Path.{_≡_}
 use Prim.Native.Nat.{ℕ}
 use borrow.Author.Needs.{needs}
