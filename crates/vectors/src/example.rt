@@ -2,10 +2,10 @@
 //
 // Two images stand in one slice, the one that is lent to the calls and then what it should be. Each has 64 bytes, one too many, and how many of
 // them are lent.
-use crate::calls;
 use crate::report;
-use crate::text;
 use bytes::scan::find;
+use script::calls;
+use script::text;
 use stled325::stled325_power_up;
 
 // No example is open; one is, and all went as written; one is, and failed.
@@ -57,10 +57,16 @@ fn failed(line: &[u8]) -> u8 {
     FAILED
 }
 
+// The part of a line from one mark up to another, or to the end.
+fn part<'a>(line: &'a [u8], from: u8, to: u8) -> &'a [u8] {
+    let end = find(line, 0, line.len(), to);
+    let start = find(line, 0, end, from);
+    &line[start..end]
+}
+
 // Changes both images.
 fn given(line: &[u8], images: &mut [u8], status: u8) -> u8 {
-    let space = find(line, 0, line.len(), b' ');
-    let changes = &line[space..];
+    let changes = part(line, b' ', b'\n');
     let end = text::fill(changes, images, 0);
     text::fill(changes, images, IMAGE);
     if end == text::UNREADABLE {
@@ -70,19 +76,24 @@ fn given(line: &[u8], images: &mut [u8], status: u8) -> u8 {
     }
 }
 
+// Makes the call on the bytes that are lent of the image. The answer is its number.
+fn make(word: u8, arguments: &[u8], images: &mut [u8], out: &mut [u8]) -> u32 {
+    if images.len() <= LENT {
+        return calls::NONE;
+    }
+    let lent = (images[LENT] % 66) as usize;
+    calls::call(word, &mut images[0..lent], arguments, out)
+}
+
 // Makes the call; its number as two decimal digits, and then its output up to a place, are what is got.
-fn make(word: u8, arguments: &[u8], images: &mut [u8], got: &mut [u8], end: usize) {
+fn get(word: u8, arguments: &[u8], images: &mut [u8], got: &mut [u8], end: usize) {
     if end < 1 {
         return;
     }
     if got.len() < end {
         return;
     }
-    if images.len() <= LENT {
-        return;
-    }
-    let lent = (images[LENT] % 66) as usize;
-    let number = calls::call(word, &mut images[0..lent], arguments, &mut got[1..end]);
+    let number = make(word, arguments, images, &mut got[1..end]);
     text::store(got, 0, (number / 10 % 10 * 16 + number % 10) as u8);
 }
 
@@ -94,7 +105,7 @@ fn is_answered(word: u8, arguments: &[u8], answer: &[u8], images: &mut [u8]) -> 
         return false;
     }
     let mut got = [0xEEu8; 25];
-    make(word, arguments, images, &mut got, end);
+    get(word, arguments, images, &mut got, end);
     report::are_same(b" >", &got, &written)
 }
 
@@ -108,11 +119,8 @@ fn is_right(images: &[u8]) -> bool {
 
 // Makes the call of a line and compares.
 fn call(line: &[u8], word: u8, images: &mut [u8], status: u8) -> u8 {
-    let bar = find(line, 0, line.len(), b'|');
-    let arrow = find(line, 0, bar, b'>');
-    let space = find(line, 0, arrow, b' ');
-    let end = text::fill(&line[bar..], images, IMAGE);
-    let answered = is_answered(word, &line[space..arrow], &line[arrow..bar], images);
+    let end = text::fill(part(line, b'|', b'\n'), images, IMAGE);
+    let answered = is_answered(word, part(line, b' ', b'>'), part(line, b'>', b'|'), images);
     let right = is_right(images);
     if answered & right & (end != text::UNREADABLE) {
         status

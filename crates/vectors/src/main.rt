@@ -1,9 +1,7 @@
 // Runs the worked examples of the file stdin, which says how they are written, over the exported calls. It prints a line for each: its
 // number, its name and ok, or FAILED with what was got.
-mod calls;
 mod example;
 mod report;
-mod text;
 
 use bytes::scan::find;
 use libc::STDIN_FILENO;

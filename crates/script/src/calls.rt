@@ -12,7 +12,7 @@ use stled325::stled325_tick;
 use stled325::stled325_wake_up;
 
 // The number of what is no call.
-const NONE: u32 = 99;
+pub const NONE: u32 = 99;
 
 // Ticks up to the first refusal.
 fn ticks(image: &mut [u8], n: u32) -> u32 {
