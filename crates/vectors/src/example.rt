@@ -4,8 +4,6 @@
 // them are lent.
 use crate::report;
 use bytes::scan::find;
-use script::calls;
-use script::text;
 use stled325::stled325_power_up;
 
 // No example is open; one is, and all went as written; one is, and failed.
@@ -34,7 +32,7 @@ pub fn close(status: u8) {
 
 // The power-up image, lent whole.
 fn reset(image: &mut [u8]) {
-    text::store(image, LENT, 64);
+    notation::fill(b" @65 40", image, 0);
     if 64 <= image.len() {
         stled325_power_up(&mut image[0..64]);
     }
@@ -67,22 +65,18 @@ fn part<'a>(line: &'a [u8], from: u8, to: u8) -> &'a [u8] {
 // Changes both images.
 fn given(line: &[u8], images: &mut [u8], status: u8) -> u8 {
     let changes = part(line, b' ', b'\n');
-    let end = text::fill(changes, images, 0);
-    text::fill(changes, images, IMAGE);
-    if end == text::UNREADABLE {
-        failed(line)
-    } else {
-        status
-    }
+    notation::fill(changes, images, 0);
+    let read = notation::fill(changes, images, IMAGE);
+    if read.readable { status } else { failed(line) }
 }
 
 // Makes the call on the bytes that are lent of the image. The answer is its number.
 fn make(word: u8, arguments: &[u8], images: &mut [u8], out: &mut [u8]) -> u32 {
     if images.len() <= LENT {
-        return calls::NONE;
+        return script::NO_CALL;
     }
     let lent = (images[LENT] % 66) as usize;
-    calls::call(word, &mut images[0..lent], arguments, out)
+    script::call(word, &mut images[0..lent], arguments, out)
 }
 
 // Makes the call; its number as two decimal digits, and then its output up to a place, are what is got.
@@ -94,14 +88,15 @@ fn get(word: u8, arguments: &[u8], images: &mut [u8], got: &mut [u8], end: usize
         return;
     }
     let number = make(word, arguments, images, &mut got[1..end]);
-    text::store(got, 0, (number / 10 % 10 * 16 + number % 10) as u8);
+    got[0] = (number / 10 % 10 * 16 + number % 10) as u8;
 }
 
 // Whether the call gives the number and the output that are written. EEh stands in the output where nothing is written.
 fn is_answered(word: u8, arguments: &[u8], answer: &[u8], images: &mut [u8]) -> bool {
     let mut written = [0xEEu8; 25];
-    let end = text::fill(answer, &mut written, 0);
-    if (end < 1) | (end > 25) {
+    let read = notation::fill(answer, &mut written, 0);
+    let end = read.at;
+    if !read.readable | (end < 1) | (end > 25) {
         return false;
     }
     let mut got = [0xEEu8; 25];
@@ -119,10 +114,10 @@ fn is_right(images: &[u8]) -> bool {
 
 // Makes the call of a line and compares.
 fn call(line: &[u8], word: u8, images: &mut [u8], status: u8) -> u8 {
-    let end = text::fill(part(line, b'|', b'\n'), images, IMAGE);
+    let read = notation::fill(part(line, b'|', b'\n'), images, IMAGE);
     let answered = is_answered(word, part(line, b' ', b'>'), part(line, b'>', b'|'), images);
     let right = is_right(images);
-    if answered & right & (end != text::UNREADABLE) {
+    if answered & right & read.readable {
         status
     } else {
         failed(line)
