@@ -12,7 +12,6 @@ use Rattle.common.proofs.Choice.{on-true, on-false, by-cases}
 use Rattle.common.proofs.Tests.{each}
 use Rattle.calendar.specs.declared.Clock.{Clock}
 use Rattle.calendar.specs.Date.{leap, monthLength}
-use Rattle.calendar.specs.Clock.{fullYear}
 use Rattle.alarm.specs.declared.Field.{Field}
 use Rattle.registers.specs.Names.{at, SECONDS, MINUTES, HOURS, WEEKDAY, DATE, MONTH, YEAR, ALARM-MONTH, ALARM-DATE, ALARM-HOUR, ALARM-MINUTE, ALARM-SECOND, ALARM-WEEKDAY}
 use Rattle.registers.specs.Written.{written}
