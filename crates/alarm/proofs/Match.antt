@@ -7,7 +7,8 @@ use native.Mathlib.Omega.{arith}
 use borrow.Author.Tests.{eqb-true, le-leb}
 use lib.Dec.{eqb, leb}
 use Rattle.common.proofs.Choice.{of-cond, by-cases, and-both}
-use Rattle.common.proofs.Tests.{each, together}
+use Rattle.common.proofs.Tests.{each, all-hold}
+use Rattle.common.proofs.Each.{done, _also_}
 use Rattle.common.specs.Tests.{conj}
 use Rattle.calendar.specs.declared.Clock.{Clock}
 use Rattle.calendar.specs.Clock.{Valid}
@@ -92,19 +93,14 @@ pub match-possible : (a : Alarm) (c : Clock) → Valid c → matches a c ≡ tru
 unfolding matches possible
 match-possible a c v e =
     let f = each (fits (a .second) (c .second) ∷ fits (a .minute) (c .minute) ∷ fits (a .hour) (c .hour) ∷ fits (a .date) (c .date) ∷ fits (a .month) (c .month) ∷ fits (a .weekday) (c .weekday) ∷ []) e in
-    together (inRange (a .second) 0 59 ∷ inRange (a .minute) 0 59 ∷ inRange (a .hour) 0 23 ∷ inRange (a .date) 1 31 ∷ inRange (a .month) 1 12 ∷ inRange (a .weekday) 1 7 ∷ []) (
-      fit-in (a .second) 0 59 (c .second) (omega arith) (v .second) (f 0),
-      (
-        fit-in (a .minute) 0 59 (c .minute) (omega arith) (v .minute) (f 1),
-        (
-          fit-in (a .hour) 0 23 (c .hour) (omega arith) (v .hour) (f 2),
-          (
-            fit-in (a .date) 1 31 (c .date) (v .dated .date-low) (date-31 _ _ _ (v .dated)) (f 3),
-            (fit-in (a .month) 1 12 (c .month) (v .dated .month-low) (v .dated .month-high) (f 4), (fit-in (a .weekday) 1 7 (c .weekday) (v .weekday-low) (v .weekday-high) (f 5), tt)),
-          ),
-        ),
-      ),
-    )
+    all-hold (inRange (a .second) 0 59 ∷ inRange (a .minute) 0 59 ∷ inRange (a .hour) 0 23 ∷ inRange (a .date) 1 31 ∷ inRange (a .month) 1 12 ∷ inRange (a .weekday) 1 7 ∷ [])
+    (fit-in (a .second) 0 59 (c .second) (omega arith) (v .second) (f 0)
+    also fit-in (a .minute) 0 59 (c .minute) (omega arith) (v .minute) (f 1)
+    also fit-in (a .hour) 0 23 (c .hour) (omega arith) (v .hour) (f 2)
+    also fit-in (a .date) 1 31 (c .date) (v .dated .date-low) (date-31 _ _ _ (v .dated)) (f 3)
+    also fit-in (a .month) 1 12 (c .month) (v .dated .month-low) (v .dated .month-high) (f 4)
+    also fit-in (a .weekday) 1 7 (c .weekday) (v .weekday-low) (v .weekday-high) (f 5)
+    also done)
 
 pub impossible-never : (a : Alarm) → possible a ≡ false → (c : Clock) → Valid c → matches a c ≡ false
 impossible-never a e c v =

@@ -14,7 +14,6 @@ use Rattle.calendar.specs.Clock.{Valid, timeOf, moved}
 use Rattle.calendar.specs.Carry.{atTime, nextDay}
 use Rattle.calendar.proofs.Moved.{within, moved-valid, moved-moved, time-moved, from-midnight}
 use Rattle.calendar.proofs.Carry.{next-day-moved}
-use Rattle.alarm.specs.Search.{firstFrom}
 use Rattle.alarm.specs.Reached.{anyReached, firstReached}
 use Rattle.alarm.proofs.Search.{longer, first-is, as-first}
 

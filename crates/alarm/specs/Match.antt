@@ -1,4 +1,4 @@
--- Document 01, the alarm: six fields, each compared or not.
+-- Document 01, "Clock registers", "Alarm": six fields, each compared or not.
 use mathlib.Core.Bool.{Bool, _&&_, _||_}
 use mathlib.Core.List.{[], _∷_}
 use Prim.Native.Nat.{ℕ, _/_, _%_}

@@ -76,7 +76,7 @@ pub fn match_second(a: Alarm, c: Clock) -> bool
 }
 
 // Whether every compared field is a possible time.
-pub fn is_possible(a: Alarm) -> bool
+fn is_possible(a: Alarm) -> bool
     ensures { λ r. ⌜ r ≡ possible a ⌝ }
 {
     let second = a.second;
@@ -116,9 +116,8 @@ fn candidate_after(a: Alarm, u: u32) -> u32
     u + 1
 }
 
-// The first second of the day from t on at which the time fits, or 86,400.
-pub fn first_time(a: Alarm, t: u32) -> u32
-    requires { ⌜ t ≤ 86400 ⌝ }
+// The first second of the day from t on at which the time fits, or 86,400; past the day, t itself.
+fn first_time(a: Alarm, t: u32) -> u32
     ensures { λ r. ⌜ r ≡ firstFrom (timeFits a) t (86400 - t) ⌝ }
 {
     let mut u = t;

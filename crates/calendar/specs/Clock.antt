@@ -1,4 +1,4 @@
--- Document 01, "The plain clock": the count of seconds, moving on, midnights passed and the weekday.
+-- Document 01, "Clock registers": the calendars that exist; "The plain clock": the count of seconds, moving on, midnights passed and the weekday.
 use mathlib.Core.Bool.{cond}
 use Prim.Native.Nat.{ℕ, zero, suc, _+_, _-_, _*_, _/_, _%_, _≤_}
 use lib.Dec.{eqb}

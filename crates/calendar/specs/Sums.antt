@@ -1,5 +1,5 @@
 -- Sums of lengths, and the place in which a count falls. Nothing of a calendar is known here.
-use mathlib.Core.Bool.{Bool, cond}
+use mathlib.Core.Bool.{cond}
 use Prim.Native.Nat.{ℕ, zero, suc, _+_}
 use lib.Dec.{leb}
 

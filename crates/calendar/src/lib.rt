@@ -22,7 +22,7 @@ pub struct Clock {
     pub second: u32,
 }
 
-// Whether a year is a leap year, by its two digits.
+// Whether a year is a leap year: by its two digits alone; the century is taken too so that a rule that looks at it (request E2) changes no caller.
 pub fn is_leap(century: u32, year: u32) -> bool
     ensures { λ r. ⌜ r ≡ leap (100 * century + year) ⌝ }
 {

@@ -1,7 +1,7 @@
 -- What is known of a command that no ground refuses, code by code. Assumes nothing.
-use Prim.Native.Nat.{ℕ, _+_, _*_, _/_, _%_, _≤_, _<_}
-use mathlib.Core.Path.{_≡_, refl, sym, ap, _∙_}
-use mathlib.Core.Bool.{Bool, true, false, not, _&&_, _||_}
+use Prim.Native.Nat.{ℕ, _/_, _%_, _≤_}
+use mathlib.Core.Path.{_≡_, refl, ap, _∙_}
+use mathlib.Core.Bool.{Bool, true, false, not, _||_}
 use mathlib.Core.List.{List}
 use native.Mathlib.Omega.{arith}
 use lib.Dec.{eqb, ltb}
@@ -14,7 +14,6 @@ use Rattle.command.specs.Codes.{WRITE-DIGITS, WRITE-REGISTERS, READ-KEYS
 use Rattle.command.specs.Refusals.{byte, bytesNeeded, roomNeeded, tooShort, outside, addressOut, isProtocol, protocolOut, digitsOut, groundsBy, grounds}
 use Rattle.command.specs.Decode.{configurationBits, commandBy, commandOf}
 use Rattle.command.specs.Holds.{Configuration, Range, Holds}
-use Rattle.command.specs.declared.Command.{Command}
 
 -- ---- One ground at a time
 

@@ -1,12 +1,11 @@
 -- Laws of the first true ground. Assumes nothing.
-use Prim.Native.Nat.{ℕ}
 use mathlib.Core.Path.{_≡_, refl, _∙_}
-use mathlib.Core.Bool.{Bool, true, false, _&&_}
+use mathlib.Core.Bool.{Bool, true, _&&_}
 use mathlib.Core.List.{List, [], _∷_, _++_}
 use native.Mathlib.Omega.{arith}
 use lib.Dec.{ltb}
 use borrow.Author.Tests.{ltb-true}
-use Rattle.common.specs.Grounds.{Ground, ground, firstGround, NoneHolds}
+use Rattle.common.specs.Grounds.{Ground, firstGround, NoneHolds}
 use Rattle.common.proofs.Choice.{on-true, on-false, by-cases, and-left, and-right}
 
 -- behind grounds that do not hold, the rest of the list decides

@@ -1,11 +1,11 @@
 -- A list of tests taken apart by number, and put together. Assumes nothing.
 use Prim.Native.Nat.{ℕ, zero, suc}
 use mathlib.Core.Path.{_≡_, refl}
-use mathlib.Core.Bool.{Bool, true, false, _&&_}
+use mathlib.Core.Bool.{Bool, true, _&&_}
 use mathlib.Core.List.{List, [], _∷_}
 use lib.ListN.{getD}
-use Rattle.common.specs.Tests.{conj, conjFrom, AllHold}
-use Rattle.common.proofs.Choice.{and-left, and-right}
+use Rattle.common.specs.Tests.{conj, conjFrom}
+use Rattle.common.proofs.Choice.{and-left, and-right, and-both}
 use Rattle.common.proofs.Each.{Each, done, _also_}
 
 first : (a : Bool) (ts : List Bool) → conjFrom a ts ≡ true → a ≡ true
@@ -23,19 +23,11 @@ pub each : (ts : List Bool) → conj ts ≡ true → (i : ℕ) → getD ts i tru
 each [] h i = refl
 each (a ∷ bs) h i = from a bs h i
 
-onward : (a : Bool) (ts : List Bool) → a ≡ true → AllHold ts → conjFrom a ts ≡ true
-onward a [] e h = e
-onward a (b ∷ bs) e h = onward (a && b) bs (λ i. e i && h .0 i) (h .1)
+onward : (a : Bool) (ts : List Bool) → a ≡ true → Each (λ (b : Bool). b ≡ true) ts → conjFrom a ts ≡ true
+onward a [] e done = e
+onward a (b ∷ bs) e (p also ps) = onward (a && b) bs (and-both a b e p) ps
 
--- the list holds if its tests do
-pub together : (ts : List Bool) → AllHold ts → conj ts ≡ true
-together [] h = refl
-together (a ∷ bs) h = onward a bs (h .0) (h .1)
-
--- the same, its tests given one after the other: `p also q also done`
+-- the list holds if its tests do, given one after the other: `p also q also done`
 pub all-hold : (ts : List Bool) → Each (λ (b : Bool). b ≡ true) ts → conj ts ≡ true
-all-hold ts h = together ts (in-turn ts h)
-  where
-    in-turn : (ts : List Bool) → Each (λ (b : Bool). b ≡ true) ts → AllHold ts
-    in-turn [] done = tt
-    in-turn (b ∷ bs) (p also ps) = (p, in-turn bs ps)
+all-hold [] done = refl
+all-hold (a ∷ bs) (p also ps) = onward a bs p ps

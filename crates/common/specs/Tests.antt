@@ -1,5 +1,4 @@
 -- A list of tests that must all hold.
-use mathlib.Core.Path.{_≡_}
 use mathlib.Core.Bool.{Bool, true, _&&_}
 use mathlib.Core.List.{List, [], _∷_}
 
@@ -11,8 +10,3 @@ conjFrom a (b ∷ bs) = conjFrom (a && b) bs
 abbrev pub conj : List Bool → Bool
 conj [] = true
 conj (a ∷ bs) = conjFrom a bs
-
--- the same as a proposition
-abbrev pub AllHold : List Bool → Type 0
-AllHold [] = Unit
-AllHold (b ∷ bs) = (b ≡ true) × AllHold bs

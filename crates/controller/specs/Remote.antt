@@ -1,6 +1,6 @@
 -- Document 01, "Remote frame": what a key does.
 use Prim.Native.Nat.{ℕ}
-use mathlib.Core.Bool.{Bool, cond, not, _&&_}
+use mathlib.Core.Bool.{cond, not, _&&_}
 use Rattle.controller.specs.declared.Core.{Core}
 use Rattle.controller.specs.State.{withRemote, remote, remoteWakes, REMOTE}
 use Rattle.controller.specs.Standby.{raised}

@@ -1,6 +1,6 @@
 -- Document 01, "Standby begins", "It ends" and "Sources set".
 use Prim.Native.Nat.{ℕ, _*_}
-use mathlib.Core.Bool.{Bool, true, false, cond}
+use mathlib.Core.Bool.{true, false, cond}
 use lib.Bits.{bitOr}
 use Rattle.units.specs.declared.Sixteenths.{Sixteenths}
 use Rattle.units.specs.Units.{sixteenthsOf}

@@ -12,7 +12,7 @@ use Rattle.common.proofs.Choice.{by-cases}
 use Rattle.remote.specs.declared.Received.{Received}
 use Rattle.remote.specs.declared.Received.the-variants.{Key, NoKey}
 use Rattle.remote.specs.Frame.{keyOf}
-use Rattle.remote.proofs.Keys.{Ours, key-ours}
+use Rattle.remote.proofs.Keys.{Addressed, key-addressed}
 use Rattle.command.specs.Refusals.{grounds}
 use Rattle.command.specs.Decode.{commandOf}
 use Rattle.command.specs.Holds.{Holds}
@@ -94,8 +94,8 @@ module _ (s l o : List ℕ) (a : after (command s) l o .number ≡ 0) where
 
 -- ---- Sound panels
 
-sound-keyedBy : {c : Core} → Sound 16 c → (r : Received) → Ours r → Sound 16 (keyedBy r c)
-sound-keyedBy {c} h (Key a k) u = subst (λ (x : ℕ). Sound 16 (keyed c x k)) (sym (eqb-true a 0 (u .to-us))) (sound-keyed h k (u .command))
+sound-keyedBy : {c : Core} → Sound 16 c → (r : Received) → Addressed r → Sound 16 (keyedBy r c)
+sound-keyedBy {c} h (Key a k) u = subst (λ (x : ℕ). Sound 16 (keyed c x k)) (sym (eqb-true a 0 (u .is-addressed))) (sound-keyed h k (u .command))
 sound-keyedBy h NoKey u = h
 
 module _ {l : List ℕ} (v : Valid l) where
@@ -110,7 +110,7 @@ module _ {l : List ℕ} (v : Valid l) where
   sound-after powerUp g o a = sound-powered
   sound-after tick g o a = on-core _ (sound-ticked (h .core))
   sound-after (sample n) g o a = on-core _ (sound-sampled (h .core) n g)
-  sound-after (frame n) g o a = on-core _ (sound-keyedBy (h .core) (keyOf (decoded l .core .setup .protocol) n) (key-ours (decoded l .core .setup .protocol) n))
+  sound-after (frame n) g o a = on-core _ (sound-keyedBy (h .core) (keyOf (decoded l .core .setup .protocol) n) (key-addressed (decoded l .core .setup .protocol) n))
   sound-after (ready level) g o a = on-core _ (sound-readySet (h .core) (high level))
   sound-after (wakeUp level) g o a = on-core _ (sound-wakeUpSet (h .core) (high level))
   sound-after (command s) g o a = sound-executed h s g (length o) (command-awake s l o a) (commandOf s) (command-holds s l o a) (command-writes s l o a)

@@ -4,7 +4,7 @@ use native.Mathlib.Nat.{le-of-suc-le-suc, not-suc-le-zero}
 use mathlib.Core.Path.{_≡_, refl, sym, ap₂, _∙_}
 use mathlib.Core.Bool.{Bool, true, false, cond, _&&_}
 use mathlib.Core.List.{List, [], _∷_}
-use lib.Dec.{T, eqb, ltb}
+use lib.Dec.{eqb, ltb}
 use lib.ListN.{length, getD}
 use borrow.Author.Tests.{eqb-true, ltb-true}
 use Rattle.common.proofs.Order.{all, all-at}
@@ -96,19 +96,14 @@ placeOf n (e ∷ es) = cond (eqb (e .reading) n) 0 (suc (placeOf n es))
 abbrev pub present : List Entry → Entry → ℕ → Bool
 present es d n = ltb (placeOf n es) (length es) && eqb (getD es (placeOf n es) d .reading) n
 
-found : (es : List Entry) (d : Entry) (n : ℕ) → T (present es d n) → (k : ℕ) × (k < length es) × (getD es k d .reading ≡ n)
-found es d n t =
+found : (es : List Entry) (d : Entry) (n : ℕ) → present es d n ≡ true → (k : ℕ) × (k < length es) × (getD es k d .reading ≡ n)
+found es d n h =
     let inside = ltb (placeOf n es) (length es) in
     let named = eqb (getD es (placeOf n es) d .reading) n in
-    let h = held (present es d n) t in
     (placeOf n es, ltb-true _ _ (and-left inside named h), eqb-true _ _ (and-right inside named h))
-  where
-    held : (b : Bool) → T b → b ≡ true
-    held true t = refl
-    held false t = absurd t
 
-all-present : T (all (λ j. present table beyond (suc j)) 14)
-all-present = tt
+all-present : all (λ j. present table beyond (suc j)) 14 ≡ true
+all-present = refl
 
 -- each of the readings 1 to 14 has its place in the table, and reads as it says
 pub each-reading : (j : ℕ) → j < 14 → (k : ℕ) × (k < length table) × (entryAt k .reading ≡ suc j) × Reads (entryAt k)

@@ -2,14 +2,13 @@
 use Prim.Native.Nat.{ℕ, zero, suc, _<_}
 use native.Mathlib.Omega.{arith}
 use mathlib.Core.Path.{_≡_, refl}
-use mathlib.Core.List.{List, [], _∷_, _++_}
+use mathlib.Core.List.{List, _++_}
 use lib.ListN.{length, getD, replicate}
 use Rattle.common.specs.Spell.{spell}
 use Rattle.common.proofs.Each.{Each, each-at, done, _also_}
-use Rattle.controller.specs.declared.Power.{Power}
 use Rattle.panel.specs.declared.Panel.{Panel}
 use Rattle.image.specs.Layout.{SIZE, byteAt, low, high, wordBytes}
-use Rattle.image.specs.Image.{pinsByte, statusBytes, wordsOf, remoteBytes, encoded}
+use Rattle.image.specs.Image.{encoded}
 use Rattle.image.specs.Sound.{SoundPanel}
 use Rattle.image.proofs.Numbers.{pins-small}
 

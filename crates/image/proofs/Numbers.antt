@@ -5,9 +5,7 @@ use mathlib.Core.Path.{_≡_, refl, _∙_}
 use mathlib.Core.Bool.{Bool, true, false, cond}
 use lib.Dec.{eqb, lit<}
 use Rattle.common.specs.Bits.{bitSet}
-use Rattle.controller.specs.declared.Power.{Power}
 use Rattle.image.specs.Layout.{low, high, READY, WAKE-UP, STBY}
-use Rattle.image.specs.Image.{pinsByte}
 
 -- ---- One byte and two
 

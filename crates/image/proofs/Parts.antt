@@ -6,13 +6,7 @@ use mathlib.Core.List.{List}
 use Rattle.common.specs.Bits.{bitSet}
 use Rattle.units.specs.declared.Sixteenths.{Sixteenths}
 use Rattle.controller.specs.declared.Core.{Core}
-use Rattle.controller.specs.declared.Rtc.{Rtc}
-use Rattle.controller.specs.declared.Power.{Power}
-use Rattle.controller.specs.declared.Setup.{Setup}
-use Rattle.controller.specs.declared.Keys.{Keys}
-use Rattle.controller.specs.declared.Remote.{Remote}
 use Rattle.controller.specs.State.{rtc, power, keys, sixteenths}
-use Rattle.display.specs.declared.Display.{Display}
 use Rattle.panel.specs.declared.Panel.{Panel}
 use Rattle.image.specs.Layout as at
 use Rattle.image.specs.Layout.{byteAt, wordAt, READY, WAKE-UP, STBY}

@@ -1,11 +1,10 @@
 -- The state that an image holds, and the image of a state (document 01, "The image": the table).
 use Prim.Native.Nat.{ℕ, _+_, _*_, _/_, _%_}
-use mathlib.Core.Bool.{Bool, cond}
+use mathlib.Core.Bool.{cond}
 use mathlib.Core.List.{List, [], _∷_, _++_}
 use lib.ListN.{replicate}
 use Rattle.common.specs.Bits.{bitSet}
 use Rattle.common.specs.Spell.{spell}
-use Rattle.units.specs.declared.Seconds.{Seconds}
 use Rattle.controller.specs.declared.Core.{Core}
 use Rattle.controller.specs.declared.Rtc.{Rtc}
 use Rattle.controller.specs.declared.Power.{Power}

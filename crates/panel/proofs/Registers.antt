@@ -1,9 +1,7 @@
 -- A write to the registers as a command's answer. Assumes nothing.
 use mathlib.Core.Path.{_≡_, ap, _∙_}
-use mathlib.Core.Bool.{Bool, true, false, cond}
 use mathlib.Core.List.{List}
 use Prim.Native.Nat.{ℕ}
-use Rattle.command.specs.declared.Command.{Command}
 use Rattle.command.specs.declared.Command.the-variants.{WriteRegisters}
 use Rattle.common.proofs.Choice.{ap-cond}
 use Rattle.effects.specs.declared.Written.{Written}

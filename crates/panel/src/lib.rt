@@ -1,6 +1,5 @@
 // The first panel kind, the STLED325: the shared state with a display of five digits, and the commands.
 ghost use mathlib.Core.Path.{_≡_};
-ghost use mathlib.Core.Bool.{cond};
 ghost use lib.ListN.{length, drop};
 ghost use Rattle.output.specs.Output.{answered};
 ghost use Rattle.panel.specs.PowerUp.{panelPoweredUp};
@@ -12,7 +11,6 @@ ghost use Rattle.controller.specs.Tick.{ticked};
 ghost use Rattle.controller.specs.Keys.{sampled};
 ghost use Rattle.controller.specs.Remote.{keyed};
 ghost use Rattle.controller.specs.Pins.{readySet, wakeUpSet};
-ghost use Prim.Native.Nat.{min};
 use command::Command;
 use controller::Core;
 use display::Display;

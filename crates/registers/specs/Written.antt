@@ -38,22 +38,22 @@ withoutB6 b = b / 128 * 128 + b % 64
 abbrev pub kept : ℕ → ℕ → ℕ
 kept a b =
     getD
-    (nothing b
-    ∷ whole b
-    ∷ low7 b
-    ∷ whole b
-    ∷ low3 b
-    ∷ low6 b
-    ∷ withoutB5 b
-    ∷ whole b
-    ∷ withoutB6 b
-    ∷ whole b
-    ∷ withoutB6 b
-    ∷ whole b
-    ∷ whole b
-    ∷ whole b
-    ∷ whole b
-    ∷ high4 b
+    (nothing b  -- 00h
+    ∷ whole b  -- 01h
+    ∷ low7 b  -- 02h
+    ∷ whole b  -- 03h
+    ∷ low3 b  -- 04h
+    ∷ low6 b  -- 05h
+    ∷ withoutB5 b  -- 06h
+    ∷ whole b  -- 07h
+    ∷ withoutB6 b  -- 08h
+    ∷ whole b  -- 09h
+    ∷ withoutB6 b  -- 0Ah
+    ∷ whole b  -- 0Bh
+    ∷ whole b  -- 0Ch
+    ∷ whole b  -- 0Dh
+    ∷ whole b  -- 0Eh
+    ∷ high4 b  -- 0Fh
     ∷ [])
     a 0
 

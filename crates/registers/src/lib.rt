@@ -1,6 +1,6 @@
 // The sixteen clock registers 00h..0Fh, held as an array by value: single bits, reserved bits, writing, and what the watchdog loads.
 ghost use mathlib.Core.Path.{_≡_};
-ghost use Prim.Native.Nat.{_+_, _≤_, _<_, min};
+ghost use Prim.Native.Nat.{_+_, _≤_, _<_};
 ghost use lib.ListN.{length};
 ghost use Rattle.registers.specs.Names.{stopped, AFE, ABE, WDFEn};
 ghost use Rattle.registers.specs.Written.{kept, reservedClear, stored, written};

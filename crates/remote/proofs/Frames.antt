@@ -1,4 +1,4 @@
--- Every key has its frame, and what document 01 reads out of frames. Assumes nothing.
+-- Every key has its frame, and protocol 0 has no key. Assumes nothing.
 use Prim.Native.Nat.{ℕ, _+_, _*_, _/_, _%_, _<_}
 use mathlib.Core.Path.{_≡_, refl, sym, ap, _∙_}
 use mathlib.Core.Bool.{cond, _&&_}
@@ -57,16 +57,6 @@ rc5-frame t a c g h k =
     let p : f / 64 % 32 ≡ a = omega arith in
     let q : f % 64 ≡ c = omega arith in
     sym (on-true _ _ (eq-eqb (f / 4096) 3 (omega arith))) ∙ (λ i. Key (p i) (q i))
-
--- edge reading 9: NEC 00 FF 45 BA is command 45h; 00 FF 45 BB is refused by 11
-pub reading-9 : (keyOf 4 (necFrame 0x00 0xFF 0x45 0xBA) ≡ Key 0 0x45) × (refusalOf (keyOf 4 (necFrame 0x00 0xFF 0x45 0xBB)) ≡ 11)
-unfolding keyOf sentBy necKey
-reading-9 = (refl, refl)
-
--- edge reading 10: RC-5 300Ch and 380Ch are command 12
-pub reading-10 : (keyOf 2 0x300C ≡ Key 0 12) × (keyOf 2 0x380C ≡ Key 0 12)
-unfolding keyOf sentBy rc5Key
-reading-10 = (refl, refl)
 
 -- protocol 0: every frame is refused by 11
 pub no-protocol : (f : ℕ) → refusalOf (keyOf 0 f) ≡ 11

@@ -1,4 +1,4 @@
--- What is known of a key: it is addressed to us, and it has bytes. Assumes nothing.
+-- What is known of a key: its device address is the panel's, and it has bytes. Assumes nothing.
 use Prim.Native.Nat.{ℕ, _/_, _%_, _<_}
 use mathlib.Core.Path.{_≡_}
 use mathlib.Core.Bool.{Bool, true, false, cond, _&&_}
@@ -7,7 +7,7 @@ use lib.Dec.{eqb}
 use Rattle.common.proofs.Choice.{of-cond}
 use Rattle.remote.specs.declared.Received.{Received}
 use Rattle.remote.specs.declared.Received.the-variants.{Key, NoKey}
-use Rattle.remote.specs.Frame.{complements, necKey, rc5Key, sentBy, addressed, ours, keyOf}
+use Rattle.remote.specs.Frame.{NEC, RC5, complements, necKey, rc5Key, sentBy, addressed, addressedKey, keyOf}
 
 -- a key has bytes
 abbrev Bytes : Received → Type 0
@@ -31,23 +31,23 @@ rc5-bytes f = tested-bytes (eqb (f / 4096) 3) (f / 64 % 32) (f % 64) (omega arit
 sent-bytes : (p f : ℕ) → Bytes (sentBy p f)
 unfolding sentBy
 sent-bytes p f =
-    of-cond Bytes (eqb p 4) (necKey f) (cond (eqb p 2) (rc5Key f) NoKey) (λ e. nec-bytes f)
-    (λ e. of-cond Bytes (eqb p 2) (rc5Key f) NoKey (λ d. rc5-bytes f) (λ d. tt))
+    of-cond Bytes (eqb p NEC) (necKey f) (cond (eqb p RC5) (rc5Key f) NoKey) (λ e. nec-bytes f)
+    (λ e. of-cond Bytes (eqb p RC5) (rc5Key f) NoKey (λ d. rc5-bytes f) (λ d. tt))
 
--- a key is addressed to us and has bytes
-pub record IsOurs (a c : ℕ) : Type 0 where
-  pub to-us : addressed a ≡ true
+-- a key has the panel's device address, and bytes
+pub record IsAddressed (a c : ℕ) : Type 0 where
+  pub is-addressed : addressed a ≡ true
   pub address : a < 256
   pub command : c < 256
 
-abbrev pub Ours : Received → Type 0
-Ours (Key a c) = IsOurs a c
-Ours NoKey = Unit
+abbrev pub Addressed : Received → Type 0
+Addressed (Key a c) = IsAddressed a c
+Addressed NoKey = Unit
 
-all-ours : (r : Received) → Bytes r → Ours (ours r)
-all-ours (Key a c) h = of-cond Ours (addressed a) (Key a c) NoKey (λ e. record { to-us = e; address = h .0; command = h .1 }) (λ e. tt)
-all-ours NoKey h = tt
+all-addressed : (r : Received) → Bytes r → Addressed (addressedKey r)
+all-addressed (Key a c) h = of-cond Addressed (addressed a) (Key a c) NoKey (λ e. record { is-addressed = e; address = h .0; command = h .1 }) (λ e. tt)
+all-addressed NoKey h = tt
 
-pub key-ours : (p f : ℕ) → Ours (keyOf p f)
+pub key-addressed : (p f : ℕ) → Addressed (keyOf p f)
 unfolding keyOf
-key-ours p f = all-ours (sentBy p f) (sent-bytes p f)
+key-addressed p f = all-addressed (sentBy p f) (sent-bytes p f)

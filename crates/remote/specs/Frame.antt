@@ -5,6 +5,16 @@ use lib.Dec.{eqb}
 use Rattle.remote.specs.declared.Received.{Received}
 use Rattle.remote.specs.declared.Received.the-variants.{Key, NoKey}
 
+-- ---- Protocols, as b6..b4 of image byte 21 hold them
+
+abbrev pub RC5 : ℕ
+RC5 = 2
+
+abbrev pub NEC : ℕ
+NEC = 4
+
+-- ---- Keys
+
 -- a byte and its complement
 abbrev pub complements : ℕ → ℕ → Bool
 complements b c = eqb (b + c) 255
@@ -19,22 +29,22 @@ necKey f =
 unfoldable pub rc5Key : ℕ → Received
 rc5Key f = cond (eqb (f / 4096) 3) (Key (f / 64 % 32) (f % 64)) NoKey
 
--- the key that a frame sends, for any device: protocol 4 is NEC, 2 is RC-5, any other sends none
+-- the key that a frame sends, for any device; any other protocol sends none
 unfoldable pub sentBy : ℕ → ℕ → Received
-sentBy protocol f = cond (eqb protocol 4) (necKey f) (cond (eqb protocol 2) (rc5Key f) NoKey)
+sentBy protocol f = cond (eqb protocol NEC) (necKey f) (cond (eqb protocol RC5) (rc5Key f) NoKey)
 
 -- THE ADDRESS TEST: only device address 0 is a key
 abbrev pub addressed : ℕ → Bool
 addressed a = eqb a 0
 
--- what of it is sent to us
-abbrev pub ours : Received → Received
-ours (Key a c) = cond (addressed a) (Key a c) NoKey
-ours NoKey = NoKey
+-- the key where its device address is the panel's, else none
+abbrev pub addressedKey : Received → Received
+addressedKey (Key a c) = cond (addressed a) (Key a c) NoKey
+addressedKey NoKey = NoKey
 
 -- the key that a frame is
 unfoldable pub keyOf : ℕ → ℕ → Received
-keyOf protocol f = ours (sentBy protocol f)
+keyOf protocol f = addressedKey (sentBy protocol f)
 
 -- the number of a frame's call: 0 for a key, 11 for none
 abbrev pub refusalOf : Received → ℕ

@@ -14,7 +14,7 @@ pub enum Received {
     NoKey,
 }
 
-// Whether keys of this device address are ours.
+// Whether keys of this device address are for the panel.
 fn is_addressed(address: u8) -> bool
     ensures { λ r. ⌜ r ≡ addressed address ⌝ }
 {
@@ -56,7 +56,7 @@ fn sent_by(protocol: u8, frame: u32) -> Received
     }
 }
 
-// The key that a frame of this protocol sends to us.
+// The key that a frame of this protocol sends to the panel.
 pub fn key(protocol: u8, frame: u32) -> Received
     ensures { λ r. ⌜ r ≡ keyOf protocol frame ⌝ }
 {

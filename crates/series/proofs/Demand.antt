@@ -1,5 +1,5 @@
 -- THE THEOREM of demand 3: what holds of a series of supply returns, as one statement. Assumes only that the image's elements are bytes.
-use Prim.Native.Nat.{ℕ, zero, suc, _+_, _%_, _≤_, _<_}
+use Prim.Native.Nat.{ℕ, _+_, _≤_}
 use mathlib.Core.Path.{_≡_, refl, sym, ap, subst, _∙_}
 use mathlib.Core.Bool.{Bool, true, false, cond, not, _&&_, _||_, and-false, or-false}
 use mathlib.Core.List.{List, [], _∷_, map}
@@ -10,21 +10,21 @@ use Rattle.common.specs.Bits.{bitSet}
 use Rattle.common.specs.Grounds.{firstGround}
 use Rattle.common.proofs.Choice.{on-true, on-false, of-cond, by-cases}
 use Rattle.calendar.specs.declared.Clock.{Clock}
-use Rattle.calendar.specs.Clock.{LIMIT, Valid, count, cycle, multiples, weekdayOn, moved}
+use Rattle.calendar.specs.Clock.{LIMIT, Valid, count, moved}
 use Rattle.calendar.proofs.Moved.{moved-valid, moved-none, moved-moved, count-moved, weekday-moved}
 use Rattle.alarm.specs.Match.{matches}
 use Rattle.alarm.specs.Reached.{anyReached}
-use Rattle.registers.specs.Names.{stopped, AFE, ABE}
+use Rattle.registers.specs.Names.{AFE, ABE}
 use Rattle.timekeeper.specs.Clock.{clockOf}
 use Rattle.timekeeper.specs.Alarm.{alarmOf}
 use Rattle.controller.specs.State.{ALARM-FLAG}
 use Rattle.properties.proofs.SoundParts.{valid-clock-of}
 use Rattle.panel.specs.declared.Panel.{Panel}
-use Rattle.image.specs.Image.{registersIn, decoded}
+use Rattle.image.specs.Image.{registersIn}
 use Rattle.image.specs.Layout.{FLAGS, byteAt, Bytes}
 use Rattle.validity.specs.Valid.{isValid}
 use Rattle.validity.proofs.Laws.{sound}
-use Rattle.supply.specs.Return.{registersReturned, matchCounts, flagsReturned}
+use Rattle.supply.specs.Return.{registersReturned, matchCounts}
 use Rattle.supply.proofs.Returns.{clock-stopped, clock-running, flag-returned}
 use Rattle.stled325.specs.Outcome.{outcome}
 use Rattle.stled325.specs.Calls.{supplyGrounds, imageReturned, supplyReturnCall}

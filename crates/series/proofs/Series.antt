@@ -1,39 +1,29 @@
 -- Demand 3 from the law that one supply return after another is one after the sum. Assumes nothing.
-use Prim.Native.Nat.{ℕ, zero, suc, _+_, _%_, _≤_, _<_}
-use mathlib.Core.Path.{_≡_, refl, sym, ap, ap₂, subst, _∙_}
-use mathlib.Core.Bool.{Bool, true, false, cond, not, _&&_, _||_, or-false, true≢false, false≢true}
-use mathlib.Core.List.{List, [], _∷_, _++_, map}
-use native.Mathlib.Nat.{add-zero}
+use Prim.Native.Nat.{ℕ, _+_}
+use mathlib.Core.Path.{_≡_, refl, sym, ap, _∙_}
+use mathlib.Core.Bool.{Bool, true, false, cond, not, _||_, true≢false}
+use mathlib.Core.List.{List, [], _∷_, map}
 use native.Mathlib.Omega.{arith}
-use lib.Dec.{leb, ltb, eqb}
-use lib.ListN.{length, getD}
-use borrow.Author.Tests.{le-leb, lt-leb, leb-true, leb-false, lt-ltb, le-ltb, ltb-true, ltb-false, eq-eqb}
-use Rattle.common.specs.Bits.{bitSet}
-use Rattle.common.specs.Grounds.{Ground, ground, firstGround}
+use lib.Dec.{ltb, eqb}
+use lib.ListN.{length}
+use borrow.Author.Tests.{leb-true, leb-false, lt-ltb, le-ltb}
+use Rattle.common.specs.Grounds.{ground, firstGround}
 use Rattle.common.proofs.Choice.{on-true, on-false, of-cond, by-cases}
-use Rattle.calendar.specs.declared.Clock.{Clock}
-use Rattle.calendar.specs.Clock.{LIMIT, Valid, count, cycle, multiples, weekdayOn, moved}
-use Rattle.calendar.proofs.Moved.{moved-none, moved-moved, count-moved, weekday-moved}
-use Rattle.registers.specs.Names.{stopped}
-use Rattle.timekeeper.specs.Clock.{clockOf}
-use Rattle.controller.specs.State.{ALARM-FLAG}
-use Rattle.properties.proofs.SoundParts.{valid-clock-of}
-use Rattle.panel.specs.declared.Panel.{Panel}
-use Rattle.image.specs.Image.{registersIn, decoded, encoded}
+use Rattle.calendar.specs.Clock.{LIMIT}
+use Rattle.image.specs.Image.{decoded, encoded}
 use Rattle.image.specs.Layout.{Bytes}
 use Rattle.image.specs.Sound.{SoundPanel}
 use Rattle.image.proofs.Laws.{decode-encode}
 use Rattle.image.proofs.Bytes.{encoded-length, encoded-bytes}
 use Rattle.validity.specs.Valid.{isValid}
 use Rattle.validity.proofs.Laws.{valid-length, sound, valid-encoded}
-use Rattle.supply.specs.Return.{registersReturned, matchCounts, flagsReturned, panelReturned}
+use Rattle.supply.specs.Return.{panelReturned}
 use Rattle.supply.proofs.Sound.{sound-returned}
-use Rattle.supply.proofs.Returns.{clock-stopped, clock-running, flag-returned, panel-add}
+use Rattle.supply.proofs.Returns.{panel-add}
 use Rattle.stled325.specs.Outcome.{Outcome, outcome}
 use Rattle.stled325.specs.Calls.{supplyGrounds, imageReturned, supplyReturnCall}
 use Rattle.stled325.proofs.Decided.{accepted, refused, decided-number, first-holds, first-passed, not-valid}
-use Rattle.series.specs.Series.{imageAfter, numbers, within, total, someAccepted, plainClock}
-use Rattle.series.specs.Demand.{clockIn, stoppedIn, flagIn, alarmReached, Demand3}
+use Rattle.series.specs.Series.{imageAfter, numbers, within, total, someAccepted}
 
 -- ---- one return by its cases
 module _ (l : List ℕ) (n : ℕ) where

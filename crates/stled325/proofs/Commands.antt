@@ -1,6 +1,6 @@
 -- The ways out of the command call, as the code reaches them. Assumes nothing.
 use Prim.Native.Nat.{ℕ}
-use mathlib.Core.Path.{_≡_, refl, sym, ap, _∙_}
+use mathlib.Core.Path.{_≡_, sym, ap, _∙_}
 use mathlib.Core.Bool.{Bool, true, false, cond, not}
 use mathlib.Core.List.{List, [], _∷_, _++_}
 use native.Mathlib.Omega.{arith}
@@ -20,7 +20,7 @@ use Rattle.panel.specs.Execute.{executed, writesNoCalendar}
 use Rattle.image.specs.Image.{decoded, encoded}
 use Rattle.events.specs.Serve.{numberLeft, imageLeft, outputLeft}
 use Rattle.validity.specs.Valid.{isValid}
-use Rattle.stled325.specs.Outcome.{outcome, decided, invalid}
+use Rattle.stled325.specs.Outcome.{outcome}
 use Rattle.stled325.specs.Command.{commandGrounds, commandCall}
 use Rattle.stled325.proofs.Decided.{accepted-zero, refused, first-passed}
 

@@ -15,7 +15,6 @@ use Rattle.controller.specs.Keys.{sampled}
 use Rattle.controller.specs.Remote.{keyed}
 use Rattle.controller.specs.Pins.{readySet, wakeUpSet}
 use Rattle.display.specs.Lines.{linesOf}
-use Rattle.panel.specs.declared.Panel.{Panel}
 use Rattle.panel.specs.State.{onCore}
 use Rattle.panel.specs.PowerUp.{panelPoweredUp}
 use Rattle.supply.specs.Return.{panelReturned}

@@ -3,10 +3,8 @@ use Prim.Native.Nat.{ℕ}
 use mathlib.Core.List.{List, [], _∷_, _++_}
 use lib.ListN.{length}
 use Rattle.common.specs.Grounds.{Ground, ground}
-use Rattle.command.specs.declared.Command.{Command}
 use Rattle.command.specs.Refusals.{grounds}
 use Rattle.command.specs.Decode.{commandOf}
-use Rattle.panel.specs.declared.Panel.{Panel}
 use Rattle.panel.specs.Read.{outputAfter}
 use Rattle.panel.specs.Execute.{executed, writesNoCalendar}
 use Rattle.image.specs.Image.{decoded, encoded}

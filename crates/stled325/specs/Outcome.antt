@@ -1,7 +1,7 @@
 -- What a call leaves (document 01, "Refusal numbers"): its number, the whole image and the whole output.
 use Prim.Native.Nat.{ℕ}
-use mathlib.Core.Bool.{Bool, cond, not}
-use mathlib.Core.List.{List, [], _∷_}
+use mathlib.Core.Bool.{cond, not}
+use mathlib.Core.List.{List}
 use lib.Dec.{eqb}
 use Rattle.common.specs.Grounds.{Ground, ground, firstGround}
 use Rattle.validity.specs.Valid.{isValid}

@@ -1,4 +1,4 @@
--- Command 50h's write: its number, its registers, that a valid calendar stays one, and document 01's readings of writes. Assumes nothing.
+-- Command 50h's write: its number, its registers, that a valid calendar stays one, and a date that is written before its month. Assumes nothing.
 use Prim.Native.Nat.{ℕ}
 use mathlib.Core.Path.{_≡_, refl}
 use mathlib.Core.Bool.{true, cond}
@@ -25,7 +25,7 @@ module _ (rs : List ℕ) (a : ℕ) (bytes : List ℕ) where
   commit-valid h =
       of-cond (λ (r : Committed). validCalendar (r .registers) ≡ true) (validCalendar (written rs a bytes)) (accepted (written rs a bytes)) (refused rs) (λ e. e) (λ e. h)
 
--- ---- Readings of writes
+-- ---- The date written first
 
 -- the registers at midnight on a date of 2024, weekday 4
 abbrev pub dated : ℕ → ℕ → List ℕ
@@ -35,13 +35,3 @@ dated month date = 0 ∷ 0 ∷ 0 ∷ 0 ∷ 4 ∷ date ∷ month ∷ 0x24 ∷ 0 �
 pub date-first : (committed (dated 0x02 0x28) 0x05 (0x31 ∷ 0x03 ∷ []) ≡ accepted (dated 0x03 0x31)) × (committed (dated 0x02 0x28) 0x05 (0x31 ∷ []) ≡ refused (dated 0x02 0x28))
 unfolding committed written stored validCalendar clockOf monthLength
 date-first = (refl, by-cases (committed (dated 0x02 0x28) 0x05 (0x31 ∷ []) ≡ refused (dated 0x02 0x28)) (leap 24) (λ e. rw e refl) (λ e. rw e refl))
-
--- edge reading 6: date 31h with month 04h
-pub reading-6 : committed (dated 0x03 0x31) 0x06 (0x04 ∷ []) ≡ refused (dated 0x03 0x31)
-unfolding committed written stored validCalendar clockOf monthLength
-reading-6 = refl
-
--- edge reading 7: seconds 1Ah
-pub reading-7 : committed (dated 0x03 0x31) 0x01 (0x1A ∷ []) ≡ refused (dated 0x03 0x31)
-unfolding committed written stored validCalendar clockOf monthLength
-reading-7 = refl

@@ -12,7 +12,6 @@ use Rattle.common.proofs.Choice.{on-true, on-false, by-cases}
 use Rattle.common.proofs.Tests.{each}
 use Rattle.calendar.specs.declared.Clock.{Clock}
 use Rattle.calendar.specs.Date.{leap, monthLength}
-use Rattle.calendar.specs.Clock.{fullYear}
 use Rattle.alarm.specs.declared.Field.{Field}
 use Rattle.registers.specs.Names.{at, SECONDS, MINUTES, HOURS, WEEKDAY, DATE, MONTH, YEAR, ALARM-MONTH, ALARM-DATE, ALARM-HOUR, ALARM-MINUTE, ALARM-SECOND, ALARM-WEEKDAY}
 use Rattle.registers.specs.Written.{written}
@@ -47,7 +46,7 @@ digits-some b =
 module _ (rs : List ℕ) (decimal : Bool) (ed : decimal ≡ conj (decimalTests (fieldBytes rs))) where
   pub no-digits : not decimal ≡ true → false ≡ validCalendar rs
   unfolding validCalendar
-  no-digits h = ap (λ (b : Bool). b && conj (rangeTests (clockOf rs) (lastDate (clockOf rs)))) (sym (not-true decimal h) ∙ ed)
+  no-digits h = ap (λ (b : Bool). b && conj (rangeTests (clockOf rs))) (sym (not-true decimal h) ∙ ed)
 
   pub in-digits : not decimal ≡ false → (date month year century last : ℕ) (leapyear : Bool) → date ≡ digits (at rs DATE) → month ≡ digits (at rs MONTH % 64) → year ≡ digits (at rs YEAR)
       → century ≡ at rs MONTH / 64 → leapyear ≡ leap (100 * century + year) → last ≡ monthLength leapyear month
@@ -68,7 +67,7 @@ module _ (rs : List ℕ) (decimal : Bool) (ed : decimal ≡ conj (decimalTests (
       ∷ leb (ey i) 99
       ∷ []
       ))
-      ∙ ap (λ (b : Bool). b && conj (rangeTests (clockOf rs) (lastDate (clockOf rs)))) (sym all)
+      ∙ ap (λ (b : Bool). b && conj (rangeTests (clockOf rs))) (sym all)
     where
       all : conj (decimalTests (fieldBytes rs)) ≡ true
       all = sym ed ∙ not-false decimal h

@@ -8,7 +8,7 @@ use Rattle.alarm.specs.declared.Alarm.{Alarm}
 use Rattle.registers.specs.Names.{at, ALARM-MONTH, ALARM-DATE, ALARM-HOUR, ALARM-MINUTE, ALARM-SECOND, ALARM-WEEKDAY}
 use Rattle.timekeeper.specs.Bcd.{decimal, digits}
 
--- a field with its RPT bit; 255, which no clock has, where the byte has a nibble above 9
+-- a field with its RPT bit; 255, no possible time, where the byte has a nibble above 9
 abbrev pub fieldOf : Bool → ℕ → Field
 fieldOf rpt b = record { any = rpt; value = cond (decimal b) (digits b) 255 }
 

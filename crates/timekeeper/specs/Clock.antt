@@ -13,7 +13,7 @@ use Rattle.timekeeper.specs.Bcd.{digits, bcd, decimalTests}
 
 -- ---- Reading
 
--- the bytes 01h..07h, flag and century bits apart; b5 of 06h is reserved: a write drops it (`kept` in `registers/Written`), a valid image has it 0 (`reservedTests`)
+-- the bytes 01h..07h, flag and century bits apart; reserved bits count as part of the fields here: a write drops them (`kept` in `registers/Written`), and a valid image has them 0 (`reservedTests`)
 abbrev pub fieldBytes : List ℕ → List ℕ
 fieldBytes rs = at rs SECONDS % 128 ∷ at rs MINUTES ∷ at rs HOURS % 64 ∷ at rs WEEKDAY ∷ at rs DATE ∷ at rs MONTH % 64 ∷ at rs YEAR ∷ []
 
@@ -33,28 +33,28 @@ clockOf rs =
 
 -- ---- Validity
 
+-- the last date of a calendar's month
+abbrev pub lastDate : Clock → ℕ
+lastDate c = monthLength (leap (fullYear c)) (c .month)
+
 -- each field is in range, the date up to the last of its month
-abbrev pub rangeTests : Clock → ℕ → List Bool
-rangeTests c last =
+abbrev pub rangeTests : Clock → List Bool
+rangeTests c =
     leb (c .second) 59
     ∷ leb (c .minute) 59
     ∷ leb (c .hour) 23
     ∷ leb 1 (c .weekday)
     ∷ leb (c .weekday) 7
     ∷ leb 1 (c .date)
-    ∷ leb (c .date) last
+    ∷ leb (c .date) (lastDate c)
     ∷ leb 1 (c .month)
     ∷ leb (c .month) 12
     ∷ leb (c .year) 99
     ∷ []
 
--- the last date of a calendar's month
-abbrev pub lastDate : Clock → ℕ
-lastDate c = monthLength (leap (fullYear c)) (c .month)
-
 -- each nibble is at most 9, each field is in range and the date exists in its month
 unfoldable pub validCalendar : List ℕ → Bool
-validCalendar rs = conj (decimalTests (fieldBytes rs)) && conj (rangeTests (clockOf rs) (lastDate (clockOf rs)))
+validCalendar rs = conj (decimalTests (fieldBytes rs)) && conj (rangeTests (clockOf rs))
 
 -- ---- Writing
 

@@ -163,7 +163,7 @@ pub fn with_clock(registers: [u8; 16], c: Clock) -> [u8; 16]
 }
 
 // An alarm field with its RPT bit.
-pub fn field(rpt: bool, b: u8) -> Field
+fn field(rpt: bool, b: u8) -> Field
     ensures { λ r. ⌜ r ≡ fieldOf rpt b ⌝ }
 {
     let value = number(b);

@@ -1,11 +1,11 @@
 -- A valid image holds a sound state and is that state's image; the image of a sound state is valid. Assumes nothing.
-use Prim.Native.Nat.{ℕ, _+_, _*_, _/_, _%_, _^_, _≤_, _<_}
+use Prim.Native.Nat.{ℕ, _+_, _^_, _<_}
 use native.Mathlib.Omega.{arith}
-use mathlib.Core.Path.{_≡_, refl, sym, ap, _∙_}
+use mathlib.Core.Path.{_≡_, refl, ap, _∙_}
 use mathlib.Core.Bool.{Bool, true, false, not, _||_}
-use mathlib.Core.List.{List, [], _∷_}
+use mathlib.Core.List.{List}
 use lib.ListN.{length, getD, replicate}
-use lib.Dec.{eqb, ltb, leb}
+use lib.Dec.{eqb}
 use borrow.Author.Tests.{ltb-true, leb-true, eqb-true, lt-ltb, le-leb, eq-eqb}
 use Rattle.common.specs.Tests.{conj}
 use Rattle.common.specs.Spell.{spell}
@@ -20,8 +20,8 @@ use Rattle.image.specs.Image.{rtcIn, powerIn, setupIn, keysIn, remoteIn, coreIn
 use Rattle.image.specs.Sound.{SoundDisplay, SoundPanel}
 use Rattle.image.proofs.Numbers.{pins-small}
 use Rattle.image.proofs.Bytes.{spelt-byte}
-use Rattle.image.proofs.Laws.{Whole, encode-decode-whole, decode-encode}
-use Rattle.validity.specs.Valid.{unnamedTests, tailTests, rangeTests, stateTests, validTests, isValid}
+use Rattle.image.proofs.Laws.{encode-decode-whole, decode-encode}
+use Rattle.validity.specs.Valid.{unnamedTests, rangeTests, stateTests, validTests, isValid}
 use Rattle.validity.proofs.Zero.{zeros}
 
 -- ---- What the tests say

@@ -1,6 +1,6 @@
 -- `alarm::first_match` meets its contract: an impossible field is matched by no second reached. Assumes nothing.
 use mathlib.Core.Path.{_≡_, sym, _∙_}
-use mathlib.Core.Bool.{true, false}
+use mathlib.Core.Bool.{false}
 use Prim.Native.Nat.{ℕ, _+_}
 use native.Mathlib.Nat.{add-comm}
 use borrow.Author.Needs.{needs}

@@ -1,7 +1,7 @@
 -- `alarm::first_time` meets its contract. The invariant: nothing fits from t up to u. Assumes nothing.
 use mathlib.Core.Path.{_≡_, sym, subst, _∙_}
-use mathlib.Core.Bool.{Bool, true, false}
-use Prim.Native.Nat.{ℕ, _-_, _≤_, _<_}
+use mathlib.Core.Bool.{true, false}
+use Prim.Native.Nat.{ℕ, _+_, _-_, _≤_, _<_}
 use native.Mathlib.Omega.{arith}
 use Rattle.alarm.specs.declared.Alarm.{Alarm}
 use Rattle.alarm.specs.Search.{firstFrom}
@@ -15,14 +15,14 @@ use Rattle.alarm.proofs.first_time.Tie as tie
 -- the seconds from t up to u do not fit
 record Searched (a : Alarm) (t u : ℕ) : Type 0 where
   low : t ≤ u
-  high : u ≤ 86400
+  high : u ≤ t + (86400 - t)
   none : (w : ℕ) → t ≤ w → w < u → timeFits a w ≡ false
 
 module _ (a : Alarm) (t u : ℕ) (s : Searched a t u) where
   found : (u < 86400 → timeFits a u ≡ true) → u ≡ firstFrom (timeFits a) t (86400 - t)
   found f =
       first-is (timeFits a) t (86400 - t) u
-      (record { low = s .low; high = omega (arith, s .low, s .high); none = s .none; found = λ h. f (omega (arith, s .low, s .high)) })
+      (record { low = s .low; high = s .high; none = s .none; found = λ h. f (omega (arith, s .low, s .high)) })
 
   module _ (r : ℕ) (e : r ≡ candidateAfter a u) (l : u < 86400) where
     later : u < r
@@ -43,7 +43,7 @@ abbrev μ-loop : tie.MeasureT-loop
 μ-loop a t u₀ u = 86400 - u
 
 loop-holds : tie.Need-loop-holds Inv-loop μ-loop
-loop-holds c = record { low = omega arith; high = c .pre; none = λ w l h. absurd (omega arith) }
+loop-holds c = record { low = omega arith; high = omega arith; none = λ w l h. absurd (omega arith) }
 
 time-fits-requires : tie.Need-time-fits-requires Inv-loop μ-loop
 time-fits-requires c κs = tt

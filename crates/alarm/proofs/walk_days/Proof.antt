@@ -1,7 +1,7 @@
 -- `alarm::walk_days` meets its contract. The invariant: the day stands base seconds behind the first midnight, and nothing
 -- matches from the start up to its second `from`. Assumes nothing.
-use mathlib.Core.Path.{_≡_, refl, sym, ap, subst, _∙_}
-use mathlib.Core.Bool.{Bool, true, false}
+use mathlib.Core.Path.{_≡_, sym, ap, subst, _∙_}
+use mathlib.Core.Bool.{false}
 use Prim.Native.Nat.{ℕ, _+_, _-_, _≤_, _<_, min}
 use native.Mathlib.Omega.{arith}
 use Rattle.calendar.specs.declared.Clock.{Clock}

@@ -1,5 +1,5 @@
 -- `calendar::move_on` meets its contract. The invariant: the day stands as many whole days behind the first midnight as were walked. Assumes nothing.
-use mathlib.Core.Path.{_≡_, refl, sym, ap, subst, _∙_}
+use mathlib.Core.Path.{_≡_, sym, ap, subst, _∙_}
 use Prim.Native.Nat.{ℕ, _+_, _-_, _*_, _/_, _%_, _≤_}
 use native.Mathlib.Omega.{arith}
 use Rattle.calendar.specs.declared.Clock.{Clock}

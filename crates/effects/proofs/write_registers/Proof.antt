@@ -1,6 +1,6 @@
 -- `effects::write_registers` meets its contract: all of the write, or nothing and 9. Assumes nothing.
 use mathlib.Core.Path.{_≡_, sym, ap, _∙_}
-use mathlib.Core.Bool.{Bool, true, false, cond, not}
+use mathlib.Core.Bool.{Bool, true, cond, not}
 use mathlib.Core.List.{List}
 use Prim.Native.Nat.{ℕ}
 use native.Mathlib.Omega.{arith}
@@ -17,7 +17,7 @@ use Rattle.timekeeper.specs.Commit.{committed}
 use Rattle.timekeeper.proofs.Judged.{commit-number, commit-registers}
 use Rattle.controller.specs.declared.Core.{Core}
 use Rattle.controller.specs.State.{withRtc, rtc, sixteenths}
-use Rattle.effects.specs.Write.{touched, calendarTouched, registersSet, registersWritten, calendarLost, answer, registersAnswer}
+use Rattle.effects.specs.Write.{touched, calendarTouched, registersSet, registersWritten, answer, registersAnswer}
 use Rattle.effects.proofs.write_registers.Statement.{statement}
 use Rattle.effects.proofs.write_registers.Tie as tie
 

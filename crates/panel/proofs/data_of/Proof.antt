@@ -1,9 +1,8 @@
 -- `panel::data_of` meets its contract. Assumes nothing.
 use mathlib.Core.Path.{_≡_, refl, _∙_}
 use mathlib.Core.List.{List}
-use Prim.Native.Nat.{ℕ, _-_, _≤_, min}
-use native.Mathlib.Omega.{arith}
-use lib.ListN.{length, take, drop, length-drop}
+use Prim.Native.Nat.{ℕ, _-_, min}
+use lib.ListN.{length, take, drop}
 use borrow.Author.Needs.{needs}
 use Rattle.common.proofs.Part.{lent, drop-most}
 use Rattle.panel.specs.Execute.{dataOf}

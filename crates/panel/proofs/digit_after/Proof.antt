@@ -1,6 +1,6 @@
 -- `panel::digit_after` meets its contract. Assumes nothing.
 use mathlib.Core.Path.{_≡_, ap, _∙_}
-use mathlib.Core.Bool.{Bool, true, false, _&&_, and-false}
+use mathlib.Core.Bool.{Bool, _&&_, and-false}
 use mathlib.Core.List.{List}
 use Prim.Native.Nat.{ℕ, _-_, _≤_, _<_}
 use lib.Dec.{leb, ltb}
@@ -8,7 +8,6 @@ use lib.ListN.{length, getD}
 use borrow.Author.Needs.{needs}
 use borrow.Author.Tests.{le-leb, lt-leb, lt-ltb, le-ltb}
 use Rattle.common.proofs.Choice.{on-true, on-false, and-both}
-use Rattle.effects.specs.Write.{touched}
 use Rattle.panel.specs.Display.{digitByte}
 use Rattle.panel.proofs.digit_after.Statement.{statement}
 use Rattle.panel.proofs.digit_after.Tie as tie

@@ -4,7 +4,6 @@ use mathlib.Core.Bool.{false}
 use borrow.Author.Needs.{needs}
 use Rattle.units.specs.declared.Sixteenths.{Sixteenths}
 use Rattle.units.specs.Units.{sixteenthsOf}
-use Rattle.controller.specs.declared.Core.{Core}
 use Rattle.controller.specs.declared.Rtc.{Rtc}
 use Rattle.controller.specs.State.{withRtc, withPower, power}
 use Rattle.controller.specs.PowerUp.{poweredUp}

@@ -1,12 +1,12 @@
 -- `controller::Core::set_ready` meets its contract. Assumes nothing.
-use mathlib.Core.Path.{_≡_, sym, ap, _∙_}
+use mathlib.Core.Path.{_≡_, ap, _∙_}
 use mathlib.Core.Bool.{Bool, true, false, Bool·beq}
 use borrow.Author.Needs.{needs}
 use Rattle.common.proofs.Choice.{on-true, on-false}
 use Rattle.controller.specs.declared.Core.{Core}
 use Rattle.controller.specs.State.{withPower, power, sixteenths}
 use Rattle.controller.specs.Standby.{standbyBegun}
-use Rattle.controller.specs.Pins.{readyRisen, readyFallen, readySet}
+use Rattle.controller.specs.Pins.{readyFallen, readySet}
 use Rattle.controller.proofs.Core.set_ready.Statement.{statement}
 use Rattle.controller.proofs.Core.set_ready.Tie as tie
 

@@ -1,7 +1,7 @@
 -- `controller::Core::tick_watchdog` meets its contract. Assumes nothing.
 use mathlib.Core.Path.{_≡_, sym, ap, _∙_}
 use mathlib.Core.Bool.{Bool, true, false, _&&_, _||_, or-true}
-use Prim.Native.Nat.{ℕ, _-_}
+use Prim.Native.Nat.{_-_}
 use lib.Bits.{bitOr}
 use lib.Dec.{eqb}
 use borrow.Author.Needs.{needs}

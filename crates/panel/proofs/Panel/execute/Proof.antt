@@ -9,7 +9,7 @@ use Rattle.controller.specs.declared.Core.{Core}
 use Rattle.controller.specs.Standby.{standbyBegun}
 use Rattle.effects.specs.declared.Written.{Written}
 use Rattle.effects.specs.Configure.{configured, maskSet, guardReloaded}
-use Rattle.effects.specs.Write.{registersWritten, calendarLost, registersAnswer, answer}
+use Rattle.effects.specs.Write.{registersAnswer}
 use Rattle.effects.specs.Clear.{storeCleared, remoteCleared, interruptsCleared}
 use Rattle.panel.specs.declared.Panel.{Panel}
 use Rattle.panel.specs.declared.Served.{Served}
