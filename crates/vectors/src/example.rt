@@ -71,36 +71,36 @@ fn given(line: &[u8], images: &mut [u8], status: u8) -> u8 {
 }
 
 // Makes the call on the bytes that are lent of the image. The answer is its number.
-fn make(word: u8, arguments: &[u8], images: &mut [u8], out: &mut [u8]) -> u32 {
+fn make(line: &[u8], word: u8, images: &mut [u8], out: &mut [u8]) -> u32 {
     if images.len() <= LENT {
         return script::NO_CALL;
     }
     let lent = (images[LENT] % 66) as usize;
-    script::call(word, &mut images[0..lent], arguments, out)
+    script::call(word, &mut images[0..lent], part(line, b' ', b'>'), out)
 }
 
 // Makes the call; its number as two decimal digits, and then its output up to a place, are what is got.
-fn get(word: u8, arguments: &[u8], images: &mut [u8], got: &mut [u8], end: usize) {
+fn get(line: &[u8], word: u8, images: &mut [u8], got: &mut [u8], end: usize) {
     if end < 1 {
         return;
     }
     if got.len() < end {
         return;
     }
-    let number = make(word, arguments, images, &mut got[1..end]);
+    let number = make(line, word, images, &mut got[1..end]);
     got[0] = (number / 10 % 10 * 16 + number % 10) as u8;
 }
 
 // Whether the call gives the number and the output that are written. EEh stands in the output where nothing is written.
-fn is_answered(word: u8, arguments: &[u8], answer: &[u8], images: &mut [u8]) -> bool {
+fn is_answered(line: &[u8], word: u8, images: &mut [u8]) -> bool {
     let mut written = [0xEEu8; 25];
-    let read = notation::fill(answer, &mut written, 0);
+    let read = notation::fill(part(line, b'>', b'|'), &mut written, 0);
     let end = read.at;
     if !read.readable | (end < 1) | (end > 25) {
         return false;
     }
     let mut got = [0xEEu8; 25];
-    get(word, arguments, images, &mut got, end);
+    get(line, word, images, &mut got, end);
     report::are_same(b" >", &got, &written)
 }
 
@@ -115,7 +115,7 @@ fn is_right(images: &[u8]) -> bool {
 // Makes the call of a line and compares.
 fn call(line: &[u8], word: u8, images: &mut [u8], status: u8) -> u8 {
     let read = notation::fill(part(line, b'|', b'\n'), images, IMAGE);
-    let answered = is_answered(word, part(line, b' ', b'>'), part(line, b'>', b'|'), images);
+    let answered = is_answered(line, word, images);
     let right = is_right(images);
     if answered & right & read.readable {
         status
