@@ -1,11 +1,13 @@
 -- What a command makes of STBY and of the clock registers. Assumes nothing.
 use Prim.Native.Nat.{ℕ}
-use mathlib.Core.Path.{_≡_, refl, sym, subst}
+use mathlib.Core.Path.{_≡_, refl, sym, ap, _∙_}
 use mathlib.Core.Bool.{Bool, true, false, true≢false}
+use mathlib.Core.Logic.{_⊎_, inl, inr, ⊎-elim}
 use mathlib.Core.List.{List}
+use native.Mathlib.Omega.{arith}
 use lib.Dec.{eqb}
-use borrow.Author.Tests.{eqb-true}
-use Rattle.common.proofs.Choice.{of-cond, by-cases}
+use borrow.Author.Tests.{eqb-true, ne-eqb}
+use Rattle.common.proofs.Choice.{of-cond}
 use Rattle.command.specs.Codes.{WRITE-DIGITS, WRITE-REGISTERS, READ-KEYS, READ-REMOTE, READ-INTERRUPTS, READ-REGISTERS, SET-HOT-KEYS, STANDBY, configures, givesDigits, setsDisplay}
 use Rattle.command.specs.Decode.{commandBy}
 use Rattle.command.specs.declared.Command.{Command}
@@ -19,80 +21,67 @@ use Rattle.panel.specs.Execute.{executed}
 
 -- ---- Which command a first byte names
 
+-- the code of a command that has one of its own; 0 of the others, and of C2h, which is what is left
+code : Command → ℕ
+code (Configure x b) = 0
+code (ConfigureDigits x b n) = 0
+code (WriteDigits a) = WRITE-DIGITS
+code (WriteRegisters a) = WRITE-REGISTERS
+code ReadKeys = READ-KEYS
+code ReadRemote = READ-REMOTE
+code ReadInterrupts = READ-INTERRUPTS
+code (ReadRegisters a) = READ-REGISTERS
+code (SetDisplay x) = 0
+code (SetHotKeys lo hi) = SET-HOT-KEYS
+code Standby = STANDBY
+code ReloadGuard = 0
+
 -- the command is C1h
 pub isStandby : Command → Bool
-isStandby (Configure x b) = false
-isStandby (ConfigureDigits x b n) = false
-isStandby (WriteDigits a) = false
-isStandby (WriteRegisters a) = false
-isStandby ReadKeys = false
-isStandby ReadRemote = false
-isStandby ReadInterrupts = false
-isStandby (ReadRegisters a) = false
-isStandby (SetDisplay x) = false
-isStandby (SetHotKeys lo hi) = false
-isStandby Standby = true
-isStandby ReloadGuard = false
+isStandby k = eqb (code k) STANDBY
 
 -- the command is 50h
 pub isWrite : Command → Bool
-isWrite (Configure x b) = false
-isWrite (ConfigureDigits x b n) = false
-isWrite (WriteDigits a) = false
-isWrite (WriteRegisters a) = true
-isWrite ReadKeys = false
-isWrite ReadRemote = false
-isWrite ReadInterrupts = false
-isWrite (ReadRegisters a) = false
-isWrite (SetDisplay x) = false
-isWrite (SetHotKeys lo hi) = false
-isWrite Standby = false
-isWrite ReloadGuard = false
+isWrite k = eqb (code k) WRITE-REGISTERS
 
 module _ (c a b : ℕ) where
+  code-named : (code (commandBy c a b) ≡ 0) ⊎ (code (commandBy c a b) ≡ c)
+  unfolding commandBy code
+  code-named =
+      let k : Command → Type 0 = λ x. (code x ≡ 0) ⊎ (code x ≡ c) in
+      of-cond k (givesDigits c) _ _ (λ _. inl refl)
+      (λ _. of-cond k (configures c) _ _ (λ _. inl refl)
+      (λ _. of-cond k (setsDisplay c) _ _ (λ _. inl refl)
+      (λ _. of-cond k (eqb c WRITE-DIGITS) _ _ (λ e. inr (sym (eqb-true c WRITE-DIGITS e)))
+      (λ _. of-cond k (eqb c WRITE-REGISTERS) _ _ (λ e. inr (sym (eqb-true c WRITE-REGISTERS e)))
+      (λ _. of-cond k (eqb c READ-KEYS) _ _ (λ e. inr (sym (eqb-true c READ-KEYS e)))
+      (λ _. of-cond k (eqb c READ-REMOTE) _ _ (λ e. inr (sym (eqb-true c READ-REMOTE e)))
+      (λ _. of-cond k (eqb c READ-INTERRUPTS) _ _ (λ e. inr (sym (eqb-true c READ-INTERRUPTS e)))
+      (λ _. of-cond k (eqb c READ-REGISTERS) _ _ (λ e. inr (sym (eqb-true c READ-REGISTERS e)))
+      (λ _. of-cond k (eqb c SET-HOT-KEYS) _ _ (λ e. inr (sym (eqb-true c SET-HOT-KEYS e)))
+      (λ _. of-cond k (eqb c STANDBY) _ _ (λ e. inr (sym (eqb-true c STANDBY e))) (λ _. inl refl)))))))))))
+
+  -- a code x of its own is named by the byte x and by no other
+  code-byte : (x : ℕ) → (x ≡ 0 → ⊥) → code (commandBy x a b) ≡ x → eqb (code (commandBy c a b)) x ≡ eqb c x
+  code-byte x z own =
+      ⊎-elim
+      (λ (e : code (commandBy c a b) ≡ 0).
+      ne-eqb _ x (λ h. z (sym h ∙ e)) ∙ sym (ne-eqb c x (λ h. z (sym own ∙ ap (λ (n : ℕ). code (commandBy n a b)) (sym h) ∙ e))))
+      (λ (e : code (commandBy c a b) ≡ c). ap (λ (n : ℕ). eqb n x) e) code-named
+
   pub standby-byte : isStandby (commandBy c a b) ≡ eqb c STANDBY
-  unfolding commandBy isStandby
-  standby-byte =
-      by-cases (isStandby (commandBy c a b) ≡ eqb c STANDBY) (eqb c STANDBY)
-      (λ y. subst (λ (x : ℕ). isStandby (commandBy x a b) ≡ eqb x STANDBY) (sym (eqb-true c STANDBY y)) refl)
-      (λ f.
-      let k : Command → Type 0 = λ x. isStandby x ≡ eqb c STANDBY in
-      of-cond k (givesDigits c) _ _ (λ _. sym f)
-      (λ _. of-cond k (configures c) _ _ (λ _. sym f)
-      (λ _. of-cond k (setsDisplay c) _ _ (λ _. sym f)
-      (λ _. of-cond k (eqb c WRITE-DIGITS) _ _ (λ _. sym f)
-      (λ _. of-cond k (eqb c WRITE-REGISTERS) _ _ (λ _. sym f)
-      (λ _. of-cond k (eqb c READ-KEYS) _ _ (λ _. sym f)
-      (λ _. of-cond k (eqb c READ-REMOTE) _ _ (λ _. sym f)
-      (λ _. of-cond k (eqb c READ-INTERRUPTS) _ _ (λ _. sym f)
-      (λ _. of-cond k (eqb c READ-REGISTERS) _ _ (λ _. sym f)
-      (λ _. of-cond k (eqb c SET-HOT-KEYS) _ _ (λ _. sym f)
-      (λ _. of-cond k (eqb c STANDBY) _ _ (λ e. sym e) (λ _. sym f))))))))))))
+  unfolding commandBy code isStandby
+  standby-byte = code-byte STANDBY (λ e. omega arith) refl
 
   pub write-byte : isWrite (commandBy c a b) ≡ eqb c WRITE-REGISTERS
-  unfolding commandBy isWrite
-  write-byte =
-      by-cases (isWrite (commandBy c a b) ≡ eqb c WRITE-REGISTERS) (eqb c WRITE-REGISTERS)
-      (λ y. subst (λ (x : ℕ). isWrite (commandBy x a b) ≡ eqb x WRITE-REGISTERS) (sym (eqb-true c WRITE-REGISTERS y)) refl)
-      (λ f.
-      let k : Command → Type 0 = λ x. isWrite x ≡ eqb c WRITE-REGISTERS in
-      of-cond k (givesDigits c) _ _ (λ _. sym f)
-      (λ _. of-cond k (configures c) _ _ (λ _. sym f)
-      (λ _. of-cond k (setsDisplay c) _ _ (λ _. sym f)
-      (λ _. of-cond k (eqb c WRITE-DIGITS) _ _ (λ _. sym f)
-      (λ _. of-cond k (eqb c WRITE-REGISTERS) _ _ (λ e. sym e)
-      (λ _. of-cond k (eqb c READ-KEYS) _ _ (λ _. sym f)
-      (λ _. of-cond k (eqb c READ-REMOTE) _ _ (λ _. sym f)
-      (λ _. of-cond k (eqb c READ-INTERRUPTS) _ _ (λ _. sym f)
-      (λ _. of-cond k (eqb c READ-REGISTERS) _ _ (λ _. sym f)
-      (λ _. of-cond k (eqb c SET-HOT-KEYS) _ _ (λ _. sym f)
-      (λ _. of-cond k (eqb c STANDBY) _ _ (λ _. sym f) (λ _. sym f))))))))))))
+  unfolding commandBy code isWrite
+  write-byte = code-byte WRITE-REGISTERS (λ e. omega arith) refl
 
 -- ---- What each makes of STBY and of the registers
 
 module _ (p : Panel) (s : List ℕ) where
   pub stby-executed : p .core .power .stby ≡ false → (k : Command) → (executed p k s) .core .power .stby ≡ isStandby k
-  unfolding isStandby configured guardReloaded registersWritten digitsSet digitsWritten
+  unfolding code isStandby configured guardReloaded registersWritten digitsSet digitsWritten
   stby-executed low (Configure x b) = low
   stby-executed low (ConfigureDigits x b n) = of-cond (λ (q : Panel). q .core .power .stby ≡ false) (eqb n (p .display .digits)) _ _ (λ _. low) (λ _. low)
   stby-executed low (WriteDigits a) = low
@@ -107,7 +96,7 @@ module _ (p : Panel) (s : List ℕ) where
   stby-executed low ReloadGuard = of-cond (λ (c : Core). c .power .stby ≡ false) (eqb (p .core .power .guard .0) 0) _ _ (λ _. low) (λ _. low)
 
   pub registers-executed : (k : Command) → isWrite k ≡ false → (executed p k s) .core .rtc .registers ≡ p .core .rtc .registers
-  unfolding isWrite configured guardReloaded digitsSet digitsWritten
+  unfolding code isWrite configured guardReloaded digitsSet digitsWritten
   registers-executed (Configure x b) n = refl
   registers-executed (ConfigureDigits x b d) n =
       of-cond (λ (q : Panel). q .core .rtc .registers ≡ p .core .rtc .registers) (eqb d (p .display .digits)) _ _ (λ _. refl) (λ _. refl)
