@@ -2,7 +2,7 @@
 use Prim.Native.Nat.{ℕ, suc, _+_, _-_, _%_, _≤_, _<_}
 use native.Mathlib.Omega.{arith}
 use mathlib.Core.Path.{_≡_, sym, ap, _∙_}
-use mathlib.Core.Bool.{Bool, true, false, cond, not, _||_}
+use mathlib.Core.Bool.{true, false, not, _||_}
 use mathlib.Core.List.{List, []}
 use lib.Dec.{eqb, ltb}
 use lib.ListN.{take}
@@ -13,7 +13,7 @@ use Rattle.notation.specs.Reading.{start, readAll}
 use Rattle.stled325.specs.Outcome.{Outcome, outcome}
 use Rattle.stled325.specs.Calls.{tickCall}
 use Rattle.stled325.specs.Command.{commandCall}
-use Rattle.script.specs.Script.{noCall, ticksMade, argumentsIn, commandBy, commandMade, numberBy, numberIn, eventMade, eventBy, eventRead, withOutput, made}
+use Rattle.script.specs.Script.{ticksMade, argumentsIn, commandFrom, commandMade, numberBy, numberIn, eventMade, eventBy, eventRead, withOutput, made}
 
 -- ---- ticks, i of n made
 module _ (n i : ℕ) (image : List ℕ) where
@@ -48,9 +48,9 @@ module _ (n i : ℕ) (image : List ℕ) where
 -- ---- arguments that are read as s
 module _ (a : List ℕ) (s : Reading) (e : s ≡ readAll (start 0) a) where
   module _ (l o : List ℕ) where
-    by-reading : (bytes : List ℕ) → bytes ≡ argumentsIn a → commandBy s bytes l o ≡ commandMade a l o
+    by-reading : (bytes : List ℕ) → bytes ≡ argumentsIn a → commandFrom s bytes l o ≡ commandMade a l o
     unfolding commandMade
-    by-reading bytes f = λ i. commandBy (e i) (f i) l o
+    by-reading bytes f = λ i. commandFrom (e i) (f i) l o
 
     pub command-unread : (bytes : List ℕ) → bytes ≡ argumentsIn a → not (s .readable) ≡ true → outcome 99 l o ≡ commandMade a l o
     command-unread bytes f h = on-true _ _ h ∙ by-reading bytes f

@@ -1,6 +1,6 @@
 -- The calls of the worked examples, by the definitions that the exported calls promise. No rule of document 01 is here.
 use Prim.Native.Nat.{ℕ, zero, suc, _%_}
-use mathlib.Core.Bool.{Bool, cond, not, _||_}
+use mathlib.Core.Bool.{cond, not, _||_}
 use mathlib.Core.List.{List, []}
 use lib.Dec.{eqb, ltb}
 use lib.ListN.{take, replicate}
@@ -24,11 +24,11 @@ abbrev pub argumentsIn : List ℕ → List ℕ
 argumentsIn arguments = filled (start 0) arguments (replicate 24 0)
 
 -- a command of at most 24 bytes
-abbrev pub commandBy : Reading → List ℕ → List ℕ → List ℕ → Outcome
-commandBy s bytes l o = cond (not (s .readable)) (noCall l o) (cond (ltb 24 (s .at)) (noCall l o) (commandCall l (take (s .at) bytes) o))
+abbrev pub commandFrom : Reading → List ℕ → List ℕ → List ℕ → Outcome
+commandFrom s bytes l o = cond (not (s .readable)) (noCall l o) (cond (ltb 24 (s .at)) (noCall l o) (commandCall l (take (s .at) bytes) o))
 
 unfoldable pub commandMade : List ℕ → List ℕ → List ℕ → Outcome
-commandMade arguments l o = commandBy (readAll (start 0) arguments) (argumentsIn arguments) l o
+commandMade arguments l o = commandFrom (readAll (start 0) arguments) (argumentsIn arguments) l o
 
 -- the number that arguments of at most five bytes write, of ticks (t) and of an outage (o) in decimal; else more than 32 bits hold
 abbrev pub numberBy : ℕ → Reading → ℕ
