@@ -1,28 +1,17 @@
--- Laws of the date and the day's number, both round trips. Of the leap rule only the days of the four centuries are used, which
--- are computed once, of the months that none is empty and none longer than 31 days. Assumes nothing.
-use mathlib.Core.Path.{_≡_, refl, sym, ap, subst}
-use mathlib.Core.Bool.{Bool, _||_}
-use Prim.Native.Nat.{ℕ, zero, suc, _+_, _-_, _*_, _≤_, _<_}
+-- Laws of the date and the day's number, both round trips. Of the leap rule only the days before a year are used, of the months that
+-- none is empty and none longer than 31 days. Assumes nothing.
+use mathlib.Core.Path.{_≡_, refl, sym, ap, subst, _∙_}
+use mathlib.Core.Bool.{Bool, true, false, cond, _||_}
+use Prim.Native.Nat.{ℕ, zero, suc, _+_, _-_, _*_, _/_, _%_, _≤_, _<_}
 use native.Mathlib.Nat.{add-sub-cancel}
 use native.Mathlib.Numerals.{add-one}
 use native.Mathlib.Omega.{arith}
+use borrow.Author.Tests.{eqb-true, eqb-false}
 use lib.Dec.{eqb}
 use Rattle.common.proofs.Choice.{of-cond}
 use Rattle.calendar.specs.Sums.{sums, place}
 use Rattle.calendar.specs.Date.{leap, monthLength, monthsBefore, yearLength, yearsBefore, calendarDays, dayNumber, yearAt, monthAt, dateAt, Dated}
 use Rattle.calendar.proofs.Sums.{sums-none, sums-suc, sums-mono, place-most, place-low, place-high, place-is}
-
--- ---- what is computed
-
--- the days of one, two, three and four centuries: beside the proof of `is_leap` and the computed edge readings nothing else looks
--- into the leap rule
-pub centuries : (yearsBefore 100 ≡ 36_525) × (yearsBefore 200 ≡ 73_050) × (yearsBefore 300 ≡ 109_575) × (yearsBefore 400 ≡ calendarDays)
-unfolding yearsBefore sums yearLength monthsBefore monthLength leap
-centuries = (refl, refl, refl, refl)
-
--- the days of the whole calendar
-pub total : yearsBefore 400 ≡ calendarDays
-total = centuries .3
 
 -- months have from 28 to 31 days
 pub month-range : (b : Bool) (m : ℕ) → (28 ≤ monthLength b m) × (monthLength b m ≤ 31)
@@ -67,13 +56,50 @@ years-none : yearsBefore 0 ≡ 0
 unfolding yearsBefore
 years-none = sums-none yearLength
 
--- each of the four centuries has 36,525 days
-pub century : (k : ℕ) → k < 4 → yearsBefore (100 * k + 100) ≡ yearsBefore (100 * k) + 36_525
-century zero h = omega (arith, years-none, centuries .0)
-century (suc zero) h = omega (arith, centuries .0, centuries .1)
-century (suc (suc zero)) h = omega (arith, centuries .1, centuries .2)
-century (suc (suc (suc zero))) h = omega (arith, centuries .2, centuries .3)
-century (suc (suc (suc (suc k)))) h = absurd (omega arith)
+-- ---- the leap rule, counted
+
+-- the days before the year y: 365 for each year, and one for each leap year
+abbrev pub daysBefore : ℕ → ℕ
+daysBefore y = 365 * y + (y + 3) / 4
+
+year-days : (b : Bool) → monthsBefore b 12 ≡ cond b 366 365
+unfolding monthsBefore sums monthLength
+year-days true = refl
+year-days false = refl
+
+-- beside the proof of `is_leap` nothing else looks into the leap rule
+pub days-before : (y : ℕ) → yearsBefore y ≡ daysBefore y
+unfolding leap
+days-before zero = years-none
+days-before (suc y) =
+    of-cond (λ (n : ℕ). monthsBefore (leap y) 12 ≡ n → yearsBefore (suc y) ≡ daysBefore (suc y)) (leap y) 366 365
+    (λ e l. omega (arith, years-next y, days-before y, l, eqb-true (y % 100 % 4) 0 e))
+    (λ e l. let ne : y % 100 % 4 ≡ 0 → ⊥ = eqb-false (y % 100 % 4) 0 e in omega (arith, years-next y, days-before y, l))
+    (year-days (leap y))
+
+-- the days of the whole calendar
+pub total : yearsBefore 400 ≡ calendarDays
+total = days-before 400
+
+-- each century has 36,525 days
+pub century : (k : ℕ) → yearsBefore (100 * k + 100) ≡ yearsBefore (100 * k) + 36_525
+century k = omega (arith, days-before (100 * k + 100), days-before (100 * k))
+
+-- the days before a date in January
+pub january : (y d : ℕ) → dayNumber y 1 d ≡ daysBefore y + (d - 1)
+unfolding dayNumber
+january y d = omega (arith, days-before y, months-none (leap y))
+
+-- a leap year is one of 366 days
+pub leap-counted : (y : ℕ) → leap y ≡ eqb (daysBefore (suc y) - daysBefore y) 366
+leap-counted y = sym (of-366 (leap y)) ∙ ap (λ (n : ℕ). eqb n 366) days
+  where
+    of-366 : (b : Bool) → eqb (cond b 366 365) 366 ≡ b
+    of-366 true = refl
+    of-366 false = refl
+
+    days : cond (leap y) 366 365 ≡ daysBefore (suc y) - daysBefore y
+    days = omega (arith, years-next y, days-before y, days-before (suc y), year-days (leap y))
 
 -- ---- from a day's number to the date
 module _ (k : ℕ) (h : k < calendarDays) where

@@ -1,3 +1,4 @@
+pub mod Calendar
 pub mod Daily
 pub mod Computed
 pub mod Readings

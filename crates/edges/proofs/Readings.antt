@@ -9,9 +9,7 @@ use lib.ListN.{length, getD}
 use borrow.Author.Tests.{eqb-true, ltb-true}
 use Rattle.common.proofs.Order.{all, all-at}
 use Rattle.common.proofs.Choice.{and-left, and-right}
-use Rattle.calendar.specs.Sums.{sums, place}
-use Rattle.calendar.specs.Date.{leap, monthLength, monthsBefore, yearLength, yearsBefore, dayNumber, yearAt, monthAt, dateAt}
-use Rattle.calendar.specs.Clock.{days, count, clockAt, moved}
+use Rattle.calendar.specs.Date.{monthLength}
 use Rattle.calendar.specs.Carry.{nextDay, next}
 use Rattle.alarm.specs.Match.{fits, matches}
 use Rattle.remote.specs.Frame.{necKey, rc5Key, sentBy, keyOf}
@@ -29,6 +27,7 @@ use Rattle.supply.specs.Return.{registersReturned}
 use Rattle.stled325.specs.Outcome.{Outcome, outcome, decided}
 use Rattle.edges.specs.Entry.{Entry, Reads}
 use Rattle.edges.specs.Table.{table, beyond, entryAt}
+use Rattle.edges.proofs.Calendar.{leap-24, leap-23, year-on, day-less, day-on}
 use Rattle.edges.proofs.Computed.{computed, computed-is}
 
 -- ---- The test of an entry
@@ -78,8 +77,8 @@ reads-at (e ∷ es) d h (suc k) l = reads-at es d (and-right (holds e) (allHold 
 -- ---- THE TEST, computed
 
 all-hold : allHold table ≡ true
-unfolding isValid decided validCalendar clockOf withClock alarmOf leap monthLength monthsBefore yearLength yearsBefore dayNumber yearAt monthAt dateAt sums place days count clockAt moved nextDay next fits matches necKey rc5Key sentBy keyOf stored written raised secondPassed clockTicked watchdogTicked guardTicked ticked keyed registersWritten bytesNeeded roomNeeded groundsBy commandBy registersReturned
-all-hold = refl
+unfolding isValid decided validCalendar clockOf withClock alarmOf monthLength nextDay next fits matches necKey rc5Key sentBy keyOf stored written raised secondPassed clockTicked watchdogTicked guardTicked ticked keyed registersWritten bytesNeeded roomNeeded groundsBy commandBy registersReturned
+all-hold = rw (leap-24, leap-23, year-on, day-less, day-on) refl
 
 -- THE READINGS
 pub edge-readings : (k : ℕ) → k < length table → Reads (entryAt k)
