@@ -27,7 +27,7 @@ use Rattle.supply.specs.Return.{registersReturned}
 use Rattle.stled325.specs.Outcome.{Outcome, outcome, decided}
 use Rattle.edges.specs.Entry.{Entry, Reads}
 use Rattle.edges.specs.Table.{table, beyond, entryAt}
-use Rattle.edges.proofs.Calendar.{leap-24, leap-23, year-on, day-less, day-on}
+use Rattle.edges.proofs.Calendar.{leap-24, leap-23, day-less, day-on, year-on}
 use Rattle.edges.proofs.Computed.{computed, computed-is}
 
 -- ---- The test of an entry
@@ -78,7 +78,7 @@ reads-at (e ∷ es) d h (suc k) l = reads-at es d (and-right (holds e) (allHold 
 
 all-hold : allHold table ≡ true
 unfolding isValid decided validCalendar clockOf withClock alarmOf monthLength nextDay next fits matches necKey rc5Key sentBy keyOf stored written raised secondPassed clockTicked watchdogTicked guardTicked ticked keyed registersWritten bytesNeeded roomNeeded groundsBy commandBy registersReturned
-all-hold = rw (leap-24, leap-23, year-on, day-less, day-on) refl
+all-hold = rw (leap-24, leap-23, day-less, day-on, year-on) refl
 
 -- THE READINGS
 pub edge-readings : (k : ℕ) → k < length table → Reads (entryAt k)
