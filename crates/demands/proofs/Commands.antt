@@ -16,7 +16,6 @@ use Rattle.controller.specs.declared.Core.{Core}
 use Rattle.effects.specs.Configure.{configured, guardReloaded}
 use Rattle.effects.specs.Write.{registersWritten}
 use Rattle.panel.specs.declared.Panel.{Panel}
-use Rattle.panel.specs.Display.{digitsSet, digitsWritten}
 use Rattle.panel.specs.Execute.{executed}
 
 -- ---- Which command a first byte names
@@ -81,9 +80,9 @@ module _ (c a b : ℕ) where
 
 module _ (p : Panel) (s : List ℕ) where
   pub stby-executed : p .core .power .stby ≡ false → (k : Command) → (executed p k s) .core .power .stby ≡ isStandby k
-  unfolding code isStandby configured guardReloaded registersWritten digitsSet digitsWritten
+  unfolding code isStandby configured guardReloaded registersWritten
   stby-executed low (Configure x b) = low
-  stby-executed low (ConfigureDigits x b n) = of-cond (λ (q : Panel). q .core .power .stby ≡ false) (eqb n (p .display .digits)) _ _ (λ _. low) (λ _. low)
+  stby-executed low (ConfigureDigits x b n) = low
   stby-executed low (WriteDigits a) = low
   stby-executed low (WriteRegisters a) = low
   stby-executed low ReadKeys = low
@@ -96,10 +95,9 @@ module _ (p : Panel) (s : List ℕ) where
   stby-executed low ReloadGuard = of-cond (λ (c : Core). c .power .stby ≡ false) (eqb (p .core .power .guard .0) 0) _ _ (λ _. low) (λ _. low)
 
   pub registers-executed : (k : Command) → isWrite k ≡ false → (executed p k s) .core .rtc .registers ≡ p .core .rtc .registers
-  unfolding code isWrite configured guardReloaded digitsSet digitsWritten
+  unfolding code isWrite configured guardReloaded
   registers-executed (Configure x b) n = refl
-  registers-executed (ConfigureDigits x b d) n =
-      of-cond (λ (q : Panel). q .core .rtc .registers ≡ p .core .rtc .registers) (eqb d (p .display .digits)) _ _ (λ _. refl) (λ _. refl)
+  registers-executed (ConfigureDigits x b d) n = refl
   registers-executed (WriteDigits a) n = refl
   registers-executed (WriteRegisters a) n = absurd (true≢false n)
   registers-executed ReadKeys n = refl

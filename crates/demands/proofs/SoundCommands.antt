@@ -30,10 +30,12 @@ use Rattle.properties.proofs.Sound.{sound-standbyBegun}
 use Rattle.effects.specs.Configure.{setupOf, configured, maskSet, guardReloaded}
 use Rattle.effects.specs.Write.{touched, calendarTouched, registersWritten, calendarLost}
 use Rattle.effects.specs.Clear.{storeCleared, remoteCleared, interruptsCleared}
+use Rattle.display.specs.declared.Display.{Display}
 use Rattle.panel.specs.declared.Panel.{Panel}
 use Rattle.panel.specs.Display.{digitsSet, displaySet, digitByte, digitsWritten}
-use Rattle.panel.specs.Execute.{dataOf, executed, writesNoCalendar}
-use Rattle.image.specs.Sound.{SoundPanel}
+use Rattle.effects.specs.Execute.{dataOf, writesNoCalendar}
+use Rattle.panel.specs.Execute.{executed}
+use Rattle.image.specs.Sound.{SoundDisplay, SoundPanel}
 
 -- ---- The shared state
 
@@ -105,41 +107,30 @@ module _ {c : Core} (h : Sound 16 c) (a : ℕ) (bytes : List ℕ) (most : a ≤ 
 
 -- ---- The display
 
-module _ {p : Panel} (h : SoundPanel p) where
-  sound-digitsSet : (n : ℕ) → Range 1 5 n → SoundPanel (digitsSet n p)
+module _ {d : Display} (h : SoundDisplay d) where
+  sound-digitsSet : (n : ℕ) → Range 1 5 n → SoundDisplay (digitsSet n d)
   unfolding digitsSet
   sound-digitsSet n r =
-      of-cond SoundPanel (eqb n (p .display .digits)) _ _ (λ e. h)
-      (λ e. record {
-        core = h .core;
-        display = record { some = r .least; most = r .most; control = omega arith; sized = h .display .sized; bytes = h .display .bytes };
-      })
+      of-cond SoundDisplay (eqb n (d .digits)) _ _ (λ e. h)
+      (λ e. record { some = r .least; most = r .most; control = omega arith; sized = h .sized; bytes = h .bytes })
 
-  sound-displaySet : (x : ℕ) → x < 32 → SoundPanel (displaySet x p)
-  sound-displaySet x l =
-      record {
-        core = h .core;
-        display = record { some = h .display .some; most = h .display .most; control = l; sized = h .display .sized; bytes = h .display .bytes };
-      }
+  sound-displaySet : (x : ℕ) → x < 32 → SoundDisplay (displaySet x d)
+  sound-displaySet x l = record { some = h .some; most = h .most; control = l; sized = h .sized; bytes = h .bytes }
 
   module _ (a : ℕ) (bytes : List ℕ) (small : (i : ℕ) → getD bytes i 0 < 256) where
-    digit-small : (x i : ℕ) → digitByte a bytes x (getD (p .display .bytes) i 0) < 256
-    digit-small x i = of-cond (λ (b : ℕ). b < 256) (touched a (length bytes) x) _ _ (λ t. small (x - a)) (λ t. h .display .bytes i)
+    digit-small : (x i : ℕ) → digitByte a bytes x (getD (d .bytes) i 0) < 256
+    digit-small x i = of-cond (λ (b : ℕ). b < 256) (touched a (length bytes) x) _ _ (λ t. small (x - a)) (λ t. h .bytes i)
 
-    sound-digitsWritten : SoundPanel (digitsWritten a bytes p)
+    sound-digitsWritten : SoundDisplay (digitsWritten a bytes d)
     unfolding digitsWritten
     sound-digitsWritten =
         record {
-          core = h .core;
-          display =
-              record {
-                some = h .display .some;
-                most = h .display .most;
-                control = h .display .control;
-                sized = refl;
-                bytes = each-at (λ (b : ℕ). b < 256) _ 0
-                    (digit-small 0x10 0 also digit-small 0x11 1 also digit-small 0x12 2 also digit-small 0x13 3 also digit-small 0x14 4 also done) (omega arith);
-              };
+          some = h .some;
+          most = h .most;
+          control = h .control;
+          sized = refl;
+          bytes = each-at (λ (b : ℕ). b < 256) _ 0
+              (digit-small 0x10 0 also digit-small 0x11 1 also digit-small 0x12 2 also digit-small 0x13 3 also digit-small 0x14 4 also done) (omega arith);
         }
 
 -- ---- EVERY COMMAND
@@ -151,16 +142,19 @@ module _ {p : Panel} (h : SoundPanel p) (s : List ℕ) (small : (i : ℕ) → ge
   on-core : (c : Core) → Sound 16 c → SoundPanel (record { core = c; display = p .display })
   on-core c k = record { core = k; display = h .display }
 
-  pub sound-executed : p .core .power .stby ≡ false → (k : Command) → Holds s room k → writesNoCalendar p k s ≡ false → SoundPanel (executed p k s)
+  on-display : (d : Display) → SoundDisplay d → SoundPanel (record { core = p .core; display = d })
+  on-display d k = record { core = h .core; display = k }
+
+  pub sound-executed : p .core .power .stby ≡ false → (k : Command) → Holds s room k → writesNoCalendar (p .core) k s ≡ false → SoundPanel (executed p k s)
   sound-executed low (Configure x b) k n = on-core _ (sound-configured (h .core) low x b k)
-  sound-executed low (ConfigureDigits x b d) k n = sound-digitsSet (on-core _ (sound-configured (h .core) low x b (k .0))) d (k .1)
-  sound-executed low (WriteDigits a) k n = sound-digitsWritten h a (dataOf s) data-small
+  sound-executed low (ConfigureDigits x b d) k n = record { core = sound-configured (h .core) low x b (k .0); display = sound-digitsSet (h .display) d (k .1) }
+  sound-executed low (WriteDigits a) k n = on-display _ (sound-digitsWritten (h .display) a (dataOf s) data-small)
   sound-executed low (WriteRegisters a) k n = on-core _ (sound-registersWritten (h .core) a (dataOf s) (k .0 .most) data-small n)
   sound-executed low ReadKeys k n = on-core _ (sound-storeCleared (h .core))
   sound-executed low ReadRemote k n = on-core _ (sound-remoteCleared (h .core))
   sound-executed low ReadInterrupts k n = on-core _ (sound-interruptsCleared (h .core))
   sound-executed low (ReadRegisters a) k n = h
-  sound-executed low (SetDisplay x) k n = sound-displaySet h x k
+  sound-executed low (SetDisplay x) k n = on-display _ (sound-displaySet (h .display) x k)
   sound-executed low (SetHotKeys lo hi) k n = on-core _ (sound-maskSet (h .core) lo hi (omega (arith, k .0, small 1)) (omega (arith, k .1, small 2)))
   sound-executed low Standby k n = on-core _ (sound-standbyBegun (h .core))
   sound-executed low ReloadGuard k n = on-core _ (sound-guardReloaded (h .core) low)

@@ -23,7 +23,7 @@ use Rattle.controller.specs.Remote.{keyed}
 use Rattle.properties.proofs.Sound.{sound-ticked, sound-sampled, sound-keyed, sound-readySet, sound-wakeUpSet}
 use Rattle.panel.specs.declared.Panel.{Panel}
 use Rattle.panel.specs.PowerUp.{panelPoweredUp}
-use Rattle.panel.specs.Execute.{writesNoCalendar}
+use Rattle.effects.specs.Execute.{writesNoCalendar}
 use Rattle.image.specs.Layout.{Bytes}
 use Rattle.image.specs.Image.{decoded, encoded}
 use Rattle.image.specs.Sound.{SoundPanel}
@@ -78,7 +78,7 @@ module _ (s l o : List ℕ) (a : after (command s) l o .number ≡ 0) where
   table = grounds s (decoded l .core .power .stby) (length o)
 
   abbrev last : List Ground
-  last = ground 9 (writesNoCalendar (decoded l) (commandOf s) s) ∷ []
+  last = ground 9 (writesNoCalendar (decoded l .core) (commandOf s) s) ∷ []
 
   none : NoneHolds (table ++ last)
   none = grounds-exact (command s) l o .groundless a .1
@@ -89,7 +89,7 @@ module _ (s l o : List ℕ) (a : after (command s) l o .number ≡ 0) where
   pub command-holds : Holds s (length o) (commandOf s)
   command-holds = none-holds s (decoded l .core .power .stby) (length o) (none-left table last none)
 
-  pub command-writes : writesNoCalendar (decoded l) (commandOf s) s ≡ false
+  pub command-writes : writesNoCalendar (decoded l .core) (commandOf s) s ≡ false
   command-writes = none-right table last none .0
 
 -- ---- Sound panels

@@ -1,3 +1,4 @@
 pub mod Configure
 pub mod Write
 pub mod Clear
+pub mod Execute

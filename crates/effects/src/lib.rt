@@ -2,8 +2,10 @@
 ghost use mathlib.Core.Path.{_≡_};
 ghost use mathlib.Core.Bool.{cond};
 ghost use Rattle.effects.specs.Configure.{configured, maskSet, guardReloaded};
-ghost use Rattle.effects.specs.Write.{touched, calendarTouched, registersAnswer};
+ghost use Rattle.effects.specs.Write.{touched, calendarTouched, answer, registersAnswer};
 ghost use Rattle.effects.specs.Clear.{storeCleared, remoteCleared, interruptsCleared};
+ghost use Rattle.effects.specs.Execute.{dataOf, commandAnswer};
+use command::Command;
 use controller::Core;
 use controller::Remote;
 use controller::Setup;
@@ -11,7 +13,7 @@ use registers::WATCHDOG;
 use units::Seconds;
 use units::Sixteenths;
 
-// What a write to the registers leaves: the state, and the number 0 or 9.
+// What a command leaves: the state, and the number 0 or 9.
 pub struct Written {
     pub core: Core,
     pub refusal: u32,
@@ -48,7 +50,7 @@ fn replaced(touched: bool, new: Sixteenths, old: Sixteenths) -> Sixteenths
 }
 
 // 00 group: the setup is set and the guard loads 16 times its value.
-pub fn configure(mut c: Core, configuration: u8, b: u8) -> Core
+fn configure(mut c: Core, configuration: u8, b: u8) -> Core
     ensures { λ r. ⌜ r ≡ configured configuration b c ⌝ }
 {
     let value = Seconds((b % 16) as u32);
@@ -66,7 +68,7 @@ pub fn configure(mut c: Core, configuration: u8, b: u8) -> Core
 }
 
 // C2h: a running guard loads again.
-pub fn reload_guard(mut c: Core) -> Core
+fn reload_guard(mut c: Core) -> Core
     ensures { λ r. ⌜ r ≡ guardReloaded c ⌝ }
 {
     if c.power.guard.0 == 0 {
@@ -81,7 +83,7 @@ pub fn reload_guard(mut c: Core) -> Core
 }
 
 // 61h clears the key store.
-pub fn clear_store(mut c: Core) -> Core
+fn clear_store(mut c: Core) -> Core
     ensures { λ r. ⌜ r ≡ storeCleared c ⌝ }
 {
     let mut keys = c.keys;
@@ -91,7 +93,7 @@ pub fn clear_store(mut c: Core) -> Core
 }
 
 // 62h clears the remote key.
-pub fn clear_remote(mut c: Core) -> Core
+fn clear_remote(mut c: Core) -> Core
     ensures { λ r. ⌜ r ≡ remoteCleared c ⌝ }
 {
     let none = Remote {
@@ -104,7 +106,7 @@ pub fn clear_remote(mut c: Core) -> Core
 }
 
 // 63h clears the interrupt byte and the flags.
-pub fn clear_interrupts(mut c: Core) -> Core
+fn clear_interrupts(mut c: Core) -> Core
     ensures { λ r. ⌜ r ≡ interruptsCleared c ⌝ }
 {
     let mut rtc = c.rtc;
@@ -115,7 +117,7 @@ pub fn clear_interrupts(mut c: Core) -> Core
 }
 
 // A0h: the hot-key mask.
-pub fn set_mask(mut c: Core, low: u8, high: u8) -> Core
+fn set_mask(mut c: Core, low: u8, high: u8) -> Core
     ensures { λ r. ⌜ r ≡ maskSet low high c ⌝ }
 {
     let mut keys = c.keys;
@@ -125,7 +127,7 @@ pub fn set_mask(mut c: Core, low: u8, high: u8) -> Core
 }
 
 // 50h: data go to the registers from address a on, all or nothing.
-pub fn write_registers(mut c: Core, a: usize, bytes: &[u8]) -> Written
+fn write_registers(mut c: Core, a: usize, bytes: &[u8]) -> Written
     ensures { λ r. ⌜ r ≡ registersAnswer a (now (bytes .entry)) c ⌝ }
 {
     let mut rtc = c.rtc;
@@ -149,5 +151,38 @@ pub fn write_registers(mut c: Core, a: usize, bytes: &[u8]) -> Written
     Written {
         core: c,
         refusal: 0,
+    }
+}
+
+// The data of 40h and 50h: the bytes behind the command byte and the address.
+pub fn data_of(s: &[u8]) -> &[u8]
+    ensures { λ r. ⌜ now r ≡ dataOf (now (s .entry)) ⌝ }
+{
+    let from = common::shorter(2, s.len());
+    &s[from..]
+}
+
+// An accepted command.
+fn accept(core: Core) -> Written
+    ensures { λ r. ⌜ r ≡ answer core 0 ⌝ }
+{
+    Written { core, refusal: 0 }
+}
+
+// The state after an accepted command, whose bytes are s; a write that leaves no valid calendar is 9.
+pub fn execute(c: Core, k: Command, s: &[u8]) -> Written
+    ensures { λ r. ⌜ r ≡ commandAnswer c k (now (s .entry)) ⌝ }
+{
+    match k {
+        Command::Configure(configuration, b) => accept(configure(c, configuration, b)),
+        Command::ConfigureDigits(configuration, b, _) => accept(configure(c, configuration, b)),
+        Command::WriteRegisters(a) => write_registers(c, a as usize, data_of(s)),
+        Command::ReadKeys => accept(clear_store(c)),
+        Command::ReadRemote => accept(clear_remote(c)),
+        Command::ReadInterrupts => accept(clear_interrupts(c)),
+        Command::SetHotKeys(low, high) => accept(set_mask(c, low, high)),
+        Command::Standby => accept(c.begin_standby()),
+        Command::ReloadGuard => accept(reload_guard(c)),
+        _ => accept(c),
     }
 }

@@ -14,7 +14,8 @@ use Rattle.panel.specs.declared.Panel.{Panel}
 use Rattle.panel.specs.declared.Served.{Served}
 use Rattle.panel.specs.State.{onCore}
 use Rattle.panel.specs.PowerUp.{panelPoweredUp}
-use Rattle.panel.specs.Execute.{executed, writesNoCalendar, servedAs, served}
+use Rattle.effects.specs.Execute.{writesNoCalendar}
+use Rattle.panel.specs.Execute.{executed, servedAs, served}
 use Rattle.panel.specs.Read.{outputAfter}
 use Rattle.image.specs.Image.{decoded, encoded}
 use Rattle.supply.specs.Return.{panelReturned}
@@ -45,7 +46,7 @@ module _ (l : List ℕ) (p : Panel) (ep : p ≡ decoded l) where
     is-served = ew ∙ ap (λ (x : Panel). served x k s) ep
 
     abbrev lost : Bool
-    lost = writesNoCalendar (decoded l) k s
+    lost = writesNoCalendar (decoded l .core) k s
 
     abbrev Left : ℕ → List ℕ → List ℕ → Type 0
     Left n m q = (n ≡ numberLeft l k s) × ((m ≡ imageLeft l k s) × (q ≡ outputLeft l k s o))

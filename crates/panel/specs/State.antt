@@ -8,9 +8,6 @@ use Rattle.panel.specs.declared.Panel.{Panel}
 abbrev pub withCore : Panel → Core → Panel
 withCore p c = record { core = c; display = p .display }
 
-abbrev pub withDisplay : Panel → Display → Panel
-withDisplay p d = record { core = p .core; display = d }
-
 abbrev pub display : ℕ → ℕ → List ℕ → Display
 display digits control bytes = record { digits = digits; control = control; bytes = bytes }
 

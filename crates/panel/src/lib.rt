@@ -4,8 +4,8 @@ ghost use lib.ListN.{length, drop};
 ghost use Rattle.output.specs.Output.{answered};
 ghost use Rattle.panel.specs.PowerUp.{panelPoweredUp};
 ghost use Rattle.panel.specs.Display.{digitsSet, displaySet, digitByte, digitsWritten};
-ghost use Rattle.panel.specs.Read.{outputAfter};
-ghost use Rattle.panel.specs.Execute.{dataOf, served, servedAs};
+ghost use Rattle.panel.specs.Read.{keysReply, remoteReply, interruptsReply, outputAfter};
+ghost use Rattle.panel.specs.Execute.{displayExecuted, served};
 ghost use Rattle.panel.specs.State.{withCore, onCore};
 ghost use Rattle.controller.specs.Tick.{ticked};
 ghost use Rattle.controller.specs.Keys.{sampled};
@@ -26,14 +26,6 @@ pub struct Served {
     pub refusal: u32,
 }
 
-// The data of 40h and 50h: the bytes behind the command byte and the address.
-fn data_of(s: &[u8]) -> &[u8]
-    ensures { λ r. ⌜ now r ≡ dataOf (now (s .entry)) ⌝ }
-{
-    let from = common::shorter(2, s.len());
-    &s[from..]
-}
-
 // The digit byte at address x after data from address a on.
 fn digit_after(a: usize, bytes: &[u8], x: usize, old: u8) -> u8
     ensures { λ r. ⌜ r ≡ digitByte a (now (bytes .entry)) x old ⌝ }
@@ -48,19 +40,86 @@ fn digit_after(a: usize, bytes: &[u8], x: usize, old: u8) -> u8
     old
 }
 
+// 40h: data go to the digit bytes from address a on.
+fn write_digits(mut d: Display, a: u8, bytes: &[u8]) -> Display
+    ensures { λ r. ⌜ r ≡ digitsWritten a (now (bytes .entry)) d ⌝ }
+{
+    let from = a as usize;
+    let old = d.bytes;
+    let new = [
+        digit_after(from, bytes, 0x10, old[0]),
+        digit_after(from, bytes, 0x11, old[1]),
+        digit_after(from, bytes, 0x12, old[2]),
+        digit_after(from, bytes, 0x13, old[3]),
+        digit_after(from, bytes, 0x14, old[4]),
+    ];
+    d.bytes = new;
+    d
+}
+
+// The digits in use; if they change the display goes off.
+fn set_digits(mut d: Display, n: u8) -> Display
+    ensures { λ r. ⌜ r ≡ digitsSet n d ⌝ }
+{
+    if n == d.digits {
+        return d;
+    }
+    d.digits = n;
+    d.control = d.control % 16;
+    d
+}
+
+// 100xxxxx: display on and brightness.
+fn set_display(mut d: Display, x: u8) -> Display
+    ensures { λ r. ⌜ r ≡ displaySet x d ⌝ }
+{
+    d.control = x;
+    d
+}
+
+// The display after an accepted command, whose bytes are s.
+fn execute_display(d: Display, k: Command, s: &[u8]) -> Display
+    ensures { λ r. ⌜ r ≡ displayExecuted d k (now (s .entry)) ⌝ }
+{
+    match k {
+        Command::ConfigureDigits(_, _, n) => set_digits(d, n),
+        Command::WriteDigits(a) => write_digits(d, a, effects::data_of(s)),
+        Command::SetDisplay(x) => set_display(d, x),
+        _ => d,
+    }
+}
+
+// 61h: replies the key store, low byte first.
+fn reply_keys(c: Core, out: &mut [u8])
+    ensures { λ _. ⌜ now (out .exit) ≡ answered (keysReply c) (length (now (out .entry))) ⌝ }
+{
+    let store = c.keys.store;
+    let reply = [(store % 256) as u8, (store / 256 % 256) as u8];
+    output::answer(out, &reply);
+}
+
+// 62h: replies the remote key.
+fn reply_remote(c: Core, out: &mut [u8])
+    ensures { λ _. ⌜ now (out .exit) ≡ answered (remoteReply c) (length (now (out .entry))) ⌝ }
+{
+    let reply = [c.remote.fresh, c.remote.address, c.remote.command];
+    output::answer(out, &reply);
+}
+
+// 63h: replies the interrupt byte and the flags.
+fn reply_interrupts(c: Core, out: &mut [u8])
+    ensures { λ _. ⌜ now (out .exit) ≡ answered (interruptsReply c) (length (now (out .entry))) ⌝ }
+{
+    let reply = [c.interrupt, c.rtc.flags];
+    output::answer(out, &reply);
+}
+
 // 70h: replies the registers from address a on.
 fn reply_registers(registers: [u8; 16], a: usize, out: &mut [u8])
     ensures { λ _. ⌜ now (out .exit) ≡ answered (drop a registers) (length (now (out .entry))) ⌝ }
 {
     let from = common::shorter(a, 16);
     output::answer(out, &registers[from..]);
-}
-
-// An accepted command.
-fn accept(panel: Panel) -> Served
-    ensures { λ r. ⌜ r ≡ servedAs panel 0 ⌝ }
-{
-    Served { panel, refusal: 0 }
 }
 
 impl Panel {
@@ -75,49 +134,6 @@ impl Panel {
             bytes: [0, 0, 0, 0, 0],
         };
         Panel { core, display }
-    }
-
-    // The digits in use; if they change the display goes off.
-    fn set_digits(mut self, n: u8) -> Panel
-        ensures { λ r. ⌜ r ≡ digitsSet n self ⌝ }
-    {
-        let mut display = self.display;
-        if n == display.digits {
-            return self;
-        }
-        display.digits = n;
-        display.control = display.control % 16;
-        self.display = display;
-        self
-    }
-
-    // 100xxxxx: display on and brightness.
-    fn set_display(mut self, x: u8) -> Panel
-        ensures { λ r. ⌜ r ≡ displaySet x self ⌝ }
-    {
-        let mut display = self.display;
-        display.control = x;
-        self.display = display;
-        self
-    }
-
-    // 40h: data go to the digit bytes from address a on.
-    fn write_digits(mut self, a: u8, bytes: &[u8]) -> Panel
-        ensures { λ r. ⌜ r ≡ digitsWritten a (now (bytes .entry)) self ⌝ }
-    {
-        let from = a as usize;
-        let mut display = self.display;
-        let old = display.bytes;
-        let new = [
-            digit_after(from, bytes, 0x10, old[0]),
-            digit_after(from, bytes, 0x11, old[1]),
-            digit_after(from, bytes, 0x12, old[2]),
-            digit_after(from, bytes, 0x13, old[3]),
-            digit_after(from, bytes, 0x14, old[4]),
-        ];
-        display.bytes = new;
-        self.display = display;
-        self
     }
 
     // The panel with another shared state.
@@ -172,40 +188,12 @@ impl Panel {
     pub fn execute(self, k: Command, s: &[u8]) -> Served
         ensures { λ r. ⌜ r ≡ served self k (now (s .entry)) ⌝ }
     {
-        let core = self.core;
-        match k {
-            Command::Configure(configuration, b) => accept(self.with_core(effects::configure(
-                core,
-                configuration,
-                b,
-            ))),
-            Command::ConfigureDigits(configuration, b, n) => {
-                accept(
-                    self.with_core(effects::configure(core, configuration, b))
-                        .set_digits(n),
-                )
-            }
-            Command::WriteDigits(a) => accept(self.write_digits(a, data_of(s))),
-            Command::WriteRegisters(a) => {
-                let w = effects::write_registers(core, a as usize, data_of(s));
-                let written = w.core;
-                Served {
-                    panel: self.with_core(written),
-                    refusal: w.refusal,
-                }
-            }
-            Command::ReadKeys => accept(self.with_core(effects::clear_store(core))),
-            Command::ReadRemote => accept(self.with_core(effects::clear_remote(core))),
-            Command::ReadInterrupts => accept(self.with_core(effects::clear_interrupts(core))),
-            Command::ReadRegisters(_) => accept(self),
-            Command::SetDisplay(x) => accept(self.set_display(x)),
-            Command::SetHotKeys(low, high) => accept(self.with_core(effects::set_mask(
-                core,
-                low,
-                high,
-            ))),
-            Command::Standby => accept(self.with_core(core.begin_standby())),
-            Command::ReloadGuard => accept(self.with_core(effects::reload_guard(core))),
+        let left = effects::execute(self.core, k, s);
+        let display = execute_display(self.display, k, s);
+        let core = left.core;
+        Served {
+            panel: Panel { core, display },
+            refusal: left.refusal,
         }
     }
 
@@ -213,23 +201,12 @@ impl Panel {
     pub fn reply(self, k: Command, out: &mut [u8])
         ensures { λ _. ⌜ now (out .exit) ≡ outputAfter (self .core) k (now (out .entry)) ⌝ }
     {
-        let core = self.core;
         match k {
-            Command::ReadKeys => {
-                let store = core.keys.store;
-                let reply = [(store % 256) as u8, (store / 256 % 256) as u8];
-                output::answer(out, &reply);
-            }
-            Command::ReadRemote => {
-                let reply = [core.remote.fresh, core.remote.address, core.remote.command];
-                output::answer(out, &reply);
-            }
-            Command::ReadInterrupts => {
-                let reply = [core.interrupt, core.rtc.flags];
-                output::answer(out, &reply);
-            }
+            Command::ReadKeys => reply_keys(self.core, out),
+            Command::ReadRemote => reply_remote(self.core, out),
+            Command::ReadInterrupts => reply_interrupts(self.core, out),
             Command::ReadRegisters(a) => {
-                let rtc = core.rtc;
+                let rtc = self.core.rtc;
                 let registers = rtc.registers;
                 reply_registers(registers, a as usize, out);
             }

@@ -16,7 +16,8 @@ use Rattle.command.specs.Decode.{commandOf, decodedOf, numberOf}
 use Rattle.command.proofs.Answers.{refused-number, refused-nonzero, accepted-command, accepted-none}
 use Rattle.controller.specs.declared.Power.{Power}
 use Rattle.panel.specs.Read.{outputAfter}
-use Rattle.panel.specs.Execute.{executed, writesNoCalendar}
+use Rattle.effects.specs.Execute.{writesNoCalendar}
+use Rattle.panel.specs.Execute.{executed}
 use Rattle.image.specs.Image.{decoded, encoded}
 use Rattle.events.specs.Serve.{numberLeft, imageLeft, outputLeft}
 use Rattle.validity.specs.Valid.{isValid}
@@ -32,7 +33,7 @@ module _ (l : List ℕ) (v : Bool) (ev : v ≡ isValid l) (hv : not v ≡ false)
   table = grounds s stby (length o)
 
   abbrev last : Bool
-  last = writesNoCalendar (decoded l) (commandOf s) s
+  last = writesNoCalendar (decoded l .core) (commandOf s) s
 
   past-1 : firstGround (table ++ (ground 9 last ∷ [])) ≡ firstGround (commandGrounds l s o)
   past-1 = first-passed (not (isValid l)) 1 (table ++ (ground 9 last ∷ [])) ((λ i. not (sym ev i)) ∙ hv)

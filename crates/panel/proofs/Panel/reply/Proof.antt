@@ -8,35 +8,20 @@ use Rattle.panel.proofs.Panel.reply.Tie as tie
 enum-told : tie.Need-enum-told
 enum-told c = search needs
 
-cast-t13 : tie.Need-cast-t13
-cast-t13 c = search needs
-
-cast-t16 : tie.Need-cast-t16
-cast-t16 c = search needs
-
-slice-aggregate-answer : tie.Need-slice-aggregate-answer
-slice-aggregate-answer c = search needs
-
-answer-requires : tie.Need-answer-requires
-answer-requires c κs = search needs
+reply-keys-requires : tie.Need-reply-keys-requires
+reply-keys-requires c κs = search needs
 
 enum-told-2 : tie.Need-enum-told-2
 enum-told-2 c = search needs
 
-slice-aggregate-answer-2 : tie.Need-slice-aggregate-answer-2
-slice-aggregate-answer-2 c = search needs
-
-answer-requires-2 : tie.Need-answer-requires-2
-answer-requires-2 c κs = search needs
+reply-remote-requires : tie.Need-reply-remote-requires
+reply-remote-requires c κs = search needs
 
 enum-told-3 : tie.Need-enum-told-3
 enum-told-3 c = search needs
 
-slice-aggregate-answer-3 : tie.Need-slice-aggregate-answer-3
-slice-aggregate-answer-3 c = search needs
-
-answer-requires-3 : tie.Need-answer-requires-3
-answer-requires-3 c κs = search needs
+reply-interrupts-requires : tie.Need-reply-interrupts-requires
+reply-interrupts-requires c κs = search needs
 
 enum-known-k : tie.Need-enum-known-k
 enum-known-k c = search needs
@@ -72,23 +57,18 @@ returns-4 : tie.Need-returns-4
 returns-4 c = search (needs, replies-registers)
 
 returns-5 : tie.Need-returns-5
-returns-5 c =
-    let s = c .before .before .before .args in silent (s .self .core) (now (s .out)) (s .k) (c .match .keys5)
+returns-5 c = search (needs, silent)
 
 pub reply-spec : {M : Type 1} → statement M
 reply-spec =
     tie.close
-    (tie.spec enum-told
-    cast-t13
-    cast-t16
-    slice-aggregate-answer
-    answer-requires
+    (tie.spec
+    enum-told
+    reply-keys-requires
     enum-told-2
-    slice-aggregate-answer-2
-    answer-requires-2
+    reply-remote-requires
     enum-told-3
-    slice-aggregate-answer-3
-    answer-requires-3
+    reply-interrupts-requires
     enum-known-k
     cast-reply-registers
     reply-registers-requires

@@ -1,13 +1,13 @@
--- `panel::data_of` meets its contract. Assumes nothing.
+-- `effects::data_of` meets its contract. Assumes nothing.
 use mathlib.Core.Path.{_≡_, refl, _∙_}
 use mathlib.Core.List.{List}
 use Prim.Native.Nat.{ℕ, _-_, min}
 use lib.ListN.{length, take, drop}
 use borrow.Author.Needs.{needs}
 use Rattle.common.proofs.Part.{lent, drop-most}
-use Rattle.panel.specs.Execute.{dataOf}
-use Rattle.panel.proofs.data_of.Statement.{statement}
-use Rattle.panel.proofs.data_of.Tie as tie
+use Rattle.effects.specs.Execute.{dataOf}
+use Rattle.effects.proofs.data_of.Statement.{statement}
+use Rattle.effects.proofs.data_of.Tie as tie
 
 rest : (s : List ℕ) (n : ℕ) → n ≡ min 2 (length s) → take (length s - n) (drop n s) ≡ dataOf s
 rest s n e = lent (length s) n s refl ∙ drop-most 2 s n e

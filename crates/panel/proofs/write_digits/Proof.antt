@@ -1,20 +1,20 @@
--- `panel::Panel::write_digits` meets its contract. Assumes nothing.
+-- `panel::write_digits` meets its contract. Assumes nothing.
 use mathlib.Core.Path.{_≡_}
 use mathlib.Core.List.{List, [], _∷_}
 use Prim.Native.Nat.{ℕ}
 use lib.ListN.{getD}
 use borrow.Author.Needs.{needs}
-use Rattle.panel.specs.declared.Panel.{Panel}
-use Rattle.panel.specs.State.{withDisplay, display}
+use Rattle.display.specs.declared.Display.{Display}
+use Rattle.panel.specs.State.{display}
 use Rattle.panel.specs.Display.{digitByte, digitsWritten}
-use Rattle.panel.proofs.Panel.write_digits.Statement.{statement}
-use Rattle.panel.proofs.Panel.write_digits.Tie as tie
+use Rattle.panel.proofs.write_digits.Statement.{statement}
+use Rattle.panel.proofs.write_digits.Tie as tie
 
-five : (a : ℕ) (bytes : List ℕ) (p : Panel) (b₁ b₂ b₃ b₄ b₅ : ℕ) → b₁ ≡ digitByte a bytes 0x10 (getD (p .display .bytes) 0 0) → b₂ ≡ digitByte a bytes 0x11 (getD (p .display .bytes) 1 0)
-    → b₃ ≡ digitByte a bytes 0x12 (getD (p .display .bytes) 2 0) → b₄ ≡ digitByte a bytes 0x13 (getD (p .display .bytes) 3 0) → b₅ ≡ digitByte a bytes 0x14 (getD (p .display .bytes) 4 0)
-    → withDisplay p (display (p .display .digits) (p .display .control) (b₁ ∷ b₂ ∷ b₃ ∷ b₄ ∷ b₅ ∷ [])) ≡ digitsWritten a bytes p
+five : (a : ℕ) (bytes : List ℕ) (d : Display) (b₁ b₂ b₃ b₄ b₅ : ℕ) → b₁ ≡ digitByte a bytes 0x10 (getD (d .bytes) 0 0) → b₂ ≡ digitByte a bytes 0x11 (getD (d .bytes) 1 0)
+    → b₃ ≡ digitByte a bytes 0x12 (getD (d .bytes) 2 0) → b₄ ≡ digitByte a bytes 0x13 (getD (d .bytes) 3 0) → b₅ ≡ digitByte a bytes 0x14 (getD (d .bytes) 4 0)
+    → display (d .digits) (d .control) (b₁ ∷ b₂ ∷ b₃ ∷ b₄ ∷ b₅ ∷ []) ≡ digitsWritten a bytes d
 unfolding digitsWritten
-five a bytes p b₁ b₂ b₃ b₄ b₅ e₁ e₂ e₃ e₄ e₅ = λ i. withDisplay p (display (p .display .digits) (p .display .control) (e₁ i ∷ e₂ i ∷ e₃ i ∷ e₄ i ∷ e₅ i ∷ []))
+five a bytes d b₁ b₂ b₃ b₄ b₅ e₁ e₂ e₃ e₄ e₅ = λ i. display (d .digits) (d .control) (e₁ i ∷ e₂ i ∷ e₃ i ∷ e₄ i ∷ e₅ i ∷ [])
 
 array-read-digit-after : tie.Need-array-read-digit-after
 array-read-digit-after c = search needs
@@ -52,7 +52,8 @@ returns c = search (needs, five)
 pub write-digits-spec : {M : Type 1} → statement M
 write-digits-spec =
     tie.close
-    (tie.spec array-read-digit-after
+    (tie.spec
+    array-read-digit-after
     digit-after-requires
     array-read-digit-after-2
     digit-after-requires-2

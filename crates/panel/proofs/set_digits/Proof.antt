@@ -1,21 +1,21 @@
--- `panel::Panel::set_digits` meets its contract. Assumes nothing.
+-- `panel::set_digits` meets its contract. Assumes nothing.
 use mathlib.Core.Path.{_≡_}
 use Prim.Native.Nat.{ℕ, _%_}
 use borrow.Author.Needs.{needs}
 use borrow.Author.Tests.{eq-eqb, ne-eqb}
 use Rattle.common.proofs.Choice.{on-true, on-false}
-use Rattle.panel.specs.declared.Panel.{Panel}
-use Rattle.panel.specs.State.{withDisplay, display}
+use Rattle.display.specs.declared.Display.{Display}
+use Rattle.panel.specs.State.{display}
 use Rattle.panel.specs.Display.{digitsSet}
-use Rattle.panel.proofs.Panel.set_digits.Statement.{statement}
-use Rattle.panel.proofs.Panel.set_digits.Tie as tie
+use Rattle.panel.proofs.set_digits.Statement.{statement}
+use Rattle.panel.proofs.set_digits.Tie as tie
 
-module _ (n : ℕ) (p : Panel) where
-  same : n ≡ p .display .digits → p ≡ digitsSet n p
+module _ (n : ℕ) (d : Display) where
+  same : n ≡ d .digits → d ≡ digitsSet n d
   unfolding digitsSet
   same h = on-true _ _ (eq-eqb _ _ h)
 
-  other : (n ≡ p .display .digits → ⊥) → withDisplay p (display n (p .display .control % 16) (p .display .bytes)) ≡ digitsSet n p
+  other : (n ≡ d .digits → ⊥) → display n (d .control % 16) (d .bytes) ≡ digitsSet n d
   unfolding digitsSet
   other h = on-false _ _ (ne-eqb _ _ h)
 
