@@ -21,7 +21,7 @@ module _ (s : Reading) (c d : ℕ) (e : d ≡ digitOf c) where
   unfolding read
   by-digit h f = f ∙ ap (digitRead s) e ∙ on-true _ _ (digit-test ∙ lt-ltb d 16 h)
 
-  pub by-place : 16 ≤ d → c ≡ 64 → reading (s .from) (s .at) (s .number) (s .decimal) (s .high) true (s .readable) ≡ read s c
+  pub by-place : 16 ≤ d → c ≡ 64 → reading (s .at) (s .number) (s .decimal) (s .high) true (s .readable) ≡ read s c
   unfolding read
   by-place h f = past _ _ (digit-test ∙ le-ltb d 16 h) (on-true _ _ (eq-eqb c 64 f))
 

@@ -10,39 +10,39 @@ use Rattle.notation.specs.declared.Reading.{Reading}
 unfoldable pub digitOf : ℕ → ℕ
 digitOf c = cond (ltb c 48) 16 (cond (leb c 57) (c - 48) (cond (ltb c 65) 16 (cond (leb c 70) (c - 65 + 10) 16)))
 
-abbrev pub reading : ℕ → ℕ → ℕ → ℕ → ℕ → Bool → Bool → Reading
-reading from at number decimal high place readable =
-    record { from = from; at = at; number = number; decimal = decimal; high = high; place = place; readable = readable }
+abbrev pub reading : ℕ → ℕ → ℕ → ℕ → Bool → Bool → Reading
+reading at number decimal high place readable =
+    record { at = at; number = number; decimal = decimal; high = high; place = place; readable = readable }
 
 -- two digits read in decimal
 abbrev pub twoDigits : ℕ → ℕ
 twoDigits value = value / 16 * 10 + value % 16
 
 -- nothing is read yet
-abbrev pub start : ℕ → Reading
-start from = reading from from 0 0 16 false true
+abbrev pub start : Reading
+start = reading 0 0 0 16 false true
 
 -- a whole pair of digits is a place, if it stands behind @, counted in decimal; else it is the next byte
 abbrev pub pairRead : Reading → ℕ → Reading
 pairRead s value =
-    cond (s .place) (reading (s .from) (s .from % 256 + twoDigits value) (s .number) (s .decimal) 16 false (s .readable))
-    (reading (s .from) (s .at % 256 + 1) (s .number % 4294967296 * 256 + value) (s .decimal % 4294967296 * 100 + twoDigits value) 16 (s .place)
+    cond (s .place) (reading (twoDigits value) (s .number) (s .decimal) 16 false (s .readable))
+    (reading (s .at % 256 + 1) (s .number % 4294967296 * 256 + value) (s .decimal % 4294967296 * 100 + twoDigits value) 16 (s .place)
     (s .readable))
 
 abbrev pub digitRead : Reading → ℕ → Reading
 digitRead s d =
-    cond (ltb (s .high) 16) (pairRead s (s .high % 16 * 16 + d % 16)) (reading (s .from) (s .at) (s .number) (s .decimal) d (s .place) (s .readable))
+    cond (ltb (s .high) 16) (pairRead s (s .high % 16 * 16 + d % 16)) (reading (s .at) (s .number) (s .decimal) d (s .place) (s .readable))
 
 -- space, dash, > and | stand between bytes; a pair has to be whole there
 abbrev pub gapRead : Reading → ℕ → Reading
 gapRead s c =
-    reading (s .from) (s .at) (s .number) (s .decimal) 16 false
+    reading (s .at) (s .number) (s .decimal) 16 false
     (s .readable && (eqb c 32 || eqb c 45 || eqb c 62 || eqb c 124) && eqb (s .high) 16 && not (s .place))
 
 unfoldable pub read : Reading → ℕ → Reading
 read s c =
     cond (ltb (digitOf c) 16) (digitRead s (digitOf c))
-    (cond (eqb c 64) (reading (s .from) (s .at) (s .number) (s .decimal) (s .high) true (s .readable)) (gapRead s c))
+    (cond (eqb c 64) (reading (s .at) (s .number) (s .decimal) (s .high) true (s .readable)) (gapRead s c))
 
 -- the bytes, with the one that the character c makes whole
 unfoldable pub stored : Reading → ℕ → List ℕ → List ℕ

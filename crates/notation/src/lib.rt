@@ -1,14 +1,28 @@
-// How the worked examples write bytes: pairs of hexadecimal digits, which go one after the other from a place on, and a new place behind @.
+// How the worked examples write bytes: pairs of hexadecimal digits, which go one after the other from place 0 on, and a new place behind @.
 ghost use mathlib.Core.Path.{_≡_};
+ghost use Prim.Native.Nat.{_+_, _*_, _/_, _%_, _≤_, min};
+ghost use lib.ListN.{length, getD};
 ghost use Rattle.notation.specs.Reading.{digitOf, start, pairRead, digitRead, gapRead, read, stored, readAll, filled};
+ghost use Rattle.notation.specs.Line.{part, endOf, answerEnd, numberOf, same, isWritten};
+use bytes::scan::find;
+use common::byte_or;
+use common::shorter;
 
 // What is no digit.
 const NONE: u8 = 16;
 
-// A text as far as it was read: the place that others are counted from, where the next byte goes, the number that the last five bytes make, also
-// if their digits are decimal, the first digit of a pair that is not whole yet, whether that pair is a place, and whether all could be read.
+// The place of an image that has the number of the bytes lent.
+const LENT: usize = 65;
+
+// The end of what cannot be read.
+const UNREADABLE: usize = 1_000;
+
+// What is no number of 32 bits.
+const NO_NUMBER: u64 = 4_294_967_296;
+
+// A text as far as it was read: the place where the next byte goes, the number that the last five bytes make, also if their digits are decimal,
+// the first digit of a pair that is not whole yet, whether that pair is a place, and whether all could be read.
 pub struct Reading {
-    pub from: usize,
     pub at: usize,
     pub number: u64,
     pub decimal: u64,
@@ -45,7 +59,7 @@ impl Reading {
         self.high = NONE;
         if self.place {
             self.place = false;
-            self.at = self.from % 256 + (digits as usize);
+            self.at = digits as usize;
             return self;
         }
         self.at = self.at % 256 + 1;
@@ -105,14 +119,13 @@ fn store(bytes: &mut [u8], s: Reading, c: u8)
     }
 }
 
-// Puts the bytes of a text into a slice, from a place on.
-pub fn fill(text: &[u8], bytes: &mut [u8], from: usize) -> Reading
-    ensures { λ r. ⌜ r ≡ readAll (start from) (now (text .entry)) ⌝ }
-    ensures { λ _. ⌜ now (bytes .exit) ≡ filled (start from) (now (text .entry)) (now (bytes .entry)) ⌝ }
+// Reads a text, and puts its bytes into a slice.
+fn read_all(text: &[u8], bytes: &mut [u8]) -> Reading
+    ensures { λ r. ⌜ r ≡ readAll start (now (text .entry)) ⌝ }
+    ensures { λ _. ⌜ now (bytes .exit) ≡ filled start (now (text .entry)) (now (bytes .entry)) ⌝ }
 {
     let mut s = Reading {
-        from,
-        at: from,
+        at: 0,
         number: 0,
         decimal: 0,
         high: NONE,
@@ -127,4 +140,96 @@ pub fn fill(text: &[u8], bytes: &mut [u8], from: usize) -> Reading
         i += 1;
     }
     s.read(b' ')
+}
+
+// The part of a line from one mark up to another, or to the end.
+fn part<'a>(line: &'a [u8], from: u8, to: u8) -> &'a [u8]
+    ensures { λ r. ⌜ now r ≡ part from to (now (line .entry)) ⌝ }
+{
+    let end = find(line, 0, line.len(), to);
+    let start = find(line, 0, end, from);
+    &line[start..end]
+}
+
+// Puts the bytes of a part of a line into a slice. The answer is the place behind the last of them.
+pub fn fill(line: &[u8], from: u8, to: u8, bytes: &mut [u8]) -> usize
+    ensures { λ r. ⌜ r ≡ endOf from to (now (line .entry)) ⌝ }
+    ensures { λ _. ⌜ now (bytes .exit) ≡ filled start (part from to (now (line .entry))) (now (bytes .entry)) ⌝ }
+{
+    let read = read_all(part(line, from, to), bytes);
+    if read.readable {
+        return read.at;
+    }
+    UNREADABLE
+}
+
+// The number that at most five bytes of a part of a line make.
+pub fn number(line: &[u8], from: u8, to: u8, decimal: bool) -> u64
+    ensures { λ r. ⌜ r ≡ numberOf from to decimal (now (line .entry)) ⌝ }
+{
+    let mut bytes = [0u8; 5];
+    let read = read_all(part(line, from, to), &mut bytes);
+    if !read.readable | (read.at > 5) {
+        return NO_NUMBER;
+    }
+    if decimal {
+        return read.decimal;
+    }
+    read.number
+}
+
+// Where the answer that a line writes ends: behind its number, and at most 66 bytes.
+pub fn answer_end(line: &[u8]) -> usize
+    ensures value { λ r. ⌜ r ≡ answerEnd (now (line .entry)) ⌝ }
+    ensures least { λ r. ⌜ 1 ≤ r ⌝ }
+    ensures most { λ r. ⌜ r ≤ 66 ⌝ }
+{
+    let mut bytes = [0u8; 1];
+    let end = fill(line, b'>', b'|', &mut bytes);
+    if end < 1 {
+        return 1;
+    }
+    if end > 66 {
+        return 66;
+    }
+    end
+}
+
+// A number as two decimal digits.
+pub fn two_digits(n: u32) -> u8
+    ensures { λ r. ⌜ r ≡ n / 10 % 10 * 16 + n % 10 ⌝ }
+{
+    (n / 10 % 10 * 16 + n % 10) as u8
+}
+
+// How many bytes of an image are lent to a call.
+pub fn lent(image: &[u8]) -> usize
+    ensures value { λ r. ⌜ r ≡ min (getD (now (image .entry)) 65 0) (length (now (image .entry))) ⌝ }
+    ensures most { λ r. ⌜ r ≤ length (now (image .entry)) ⌝ }
+{
+    shorter(byte_or(image, LENT, 0) as usize, image.len())
+}
+
+fn are_same(got: [u8; 66], want: [u8; 66]) -> bool
+    ensures { λ r. ⌜ r ≡ same got want ⌝ }
+{
+    let mut i = 0;
+    while i < 66 {
+        if got[i] != want[i] {
+            return false;
+        }
+        i += 1;
+    }
+    true
+}
+
+// Whether what was got is what a part of a line makes of the bytes.
+pub fn is_written(line: &[u8], from: u8, to: u8, mut bytes: [u8; 66], got: [u8; 66]) -> bool
+    ensures { λ r. ⌜ r ≡ isWritten from to (now (line .entry)) bytes got ⌝ }
+{
+    let end = fill(line, from, to, &mut bytes);
+    if end > 66 {
+        return false;
+    }
+    are_same(got, bytes)
 }

@@ -2,18 +2,17 @@
 use Prim.Native.Nat.{ℕ, suc, _+_, _-_, _%_, _≤_, _<_}
 use native.Mathlib.Omega.{arith}
 use mathlib.Core.Path.{_≡_, sym, ap, _∙_}
-use mathlib.Core.Bool.{true, false, not, _||_}
+use mathlib.Core.Bool.{_||_}
 use mathlib.Core.List.{List, []}
-use lib.Dec.{eqb, ltb}
+use lib.Dec.{eqb}
 use lib.ListN.{take}
 use borrow.Author.Tests.{lt-ltb, le-ltb, eq-eqb, ne-eqb}
 use Rattle.common.proofs.Choice.{on-true, on-false, past}
-use Rattle.notation.specs.declared.Reading.{Reading}
-use Rattle.notation.specs.Reading.{start, readAll}
+use Rattle.notation.specs.Line.{endOf, numberOf}
 use Rattle.stled325.specs.Outcome.{Outcome, outcome}
 use Rattle.stled325.specs.Calls.{tickCall}
 use Rattle.stled325.specs.Command.{commandCall}
-use Rattle.script.specs.Script.{ticksMade, argumentsIn, commandFrom, commandMade, numberBy, numberIn, eventMade, eventBy, eventRead, withOutput, made}
+use Rattle.script.specs.Script.{ticksMade, argumentsIn, commandFrom, commandMade, eventMade, eventBy, eventRead, withOutput, made}
 
 -- ---- ticks, i of n made
 module _ (n i : ℕ) (image : List ℕ) where
@@ -45,50 +44,30 @@ module _ (n i : ℕ) (image : List ℕ) where
       let e : 0 ≡ n - i = omega arith in
       ap (λ (k : ℕ). ticksMade k image) e
 
--- ---- arguments that are read as s
-module _ (a : List ℕ) (s : Reading) (e : s ≡ readAll (start 0) a) where
-  module _ (l o : List ℕ) where
-    by-reading : (bytes : List ℕ) → bytes ≡ argumentsIn a → commandFrom s bytes l o ≡ commandMade a l o
-    unfolding commandMade
-    by-reading bytes f = λ i. commandFrom (e i) (f i) l o
+-- ---- a command, n being where its bytes end
+module _ (line : List ℕ) (n : ℕ) (e : n ≡ endOf 32 62 line) (bytes : List ℕ) (f : bytes ≡ argumentsIn line) (l o : List ℕ) where
+  command-by : commandFrom n bytes l o ≡ commandMade line l o
+  unfolding commandMade
+  command-by = λ i. commandFrom (e i) (f i) l o
 
-    pub command-unread : (bytes : List ℕ) → bytes ≡ argumentsIn a → not (s .readable) ≡ true → outcome 99 l o ≡ commandMade a l o
-    command-unread bytes f h = on-true _ _ h ∙ by-reading bytes f
+  pub command-long : 24 < n → outcome 99 l o ≡ commandMade line l o
+  command-long h = on-true _ _ (lt-ltb 24 n h) ∙ command-by
 
-    pub command-long : (bytes : List ℕ) → bytes ≡ argumentsIn a → not (s .readable) ≡ false → 24 < s .at → outcome 99 l o ≡ commandMade a l o
-    command-long bytes f h m = on-true _ _ (lt-ltb 24 (s .at) m) ∙ on-false _ _ h ∙ by-reading bytes f
-
-    pub command-sent : (bytes : List ℕ) → bytes ≡ argumentsIn a → not (s .readable) ≡ false → s .at ≤ 24 → {x : Outcome}
-        → x ≡ commandCall l (take (s .at - 0) bytes) o → x ≡ commandMade a l o
-    command-sent bytes f h m g =
-        let k : s .at - 0 ≡ s .at = omega arith in
-        past _ _ h (past _ _ (le-ltb 24 (s .at) m) (g ∙ ap (λ (n : ℕ). commandCall l (take n bytes) o) k)) ∙ by-reading bytes f
-
-  module _ (word : ℕ) where
-    number-by : numberBy word s ≡ numberIn word a
-    unfolding numberIn
-    number-by = ap (numberBy word) e
-
-    pub number-unread : (not (s .readable) || ltb 5 (s .at)) ≡ true → 4294967296 ≡ numberIn word a
-    number-unread h = on-true _ _ h ∙ number-by
-
-    module _ (h : (not (s .readable) || ltb 5 (s .at)) ≡ false) where
-      pub number-decimal : (eqb word 116 || eqb word 111) ≡ true → s .decimal ≡ numberIn word a
-      number-decimal k = past _ _ h (on-true _ _ k) ∙ number-by
-
-      pub number-hexadecimal : (eqb word 116 || eqb word 111) ≡ false → s .number ≡ numberIn word a
-      number-hexadecimal k = past _ _ h (on-false _ _ k) ∙ number-by
+  pub command-sent : n ≤ 24 → {x : Outcome} → x ≡ commandCall l (take (n - 0) bytes) o → x ≡ commandMade line l o
+  command-sent h g =
+      let k : n - 0 ≡ n = omega arith in
+      past _ _ (le-ltb 24 n h) (g ∙ ap (λ (m : ℕ). commandCall l (take m bytes) o) k) ∙ command-by
 
 -- ---- an event, n being the number of its arguments
-module _ (word n : ℕ) (a l : List ℕ) (e : n ≡ numberIn word a) where
-  event-by : eventBy word n l ≡ eventRead word a l
+module _ (word n : ℕ) (line l : List ℕ) (e : n ≡ numberOf 32 62 (eqb word 116 || eqb word 111) line) where
+  event-by : eventBy word n l ≡ eventRead word line l
   unfolding eventRead
   event-by = ap (λ (k : ℕ). eventBy word k l) e
 
-  pub event-none : 4294967295 < n → outcome 99 l [] ≡ eventRead word a l
+  pub event-none : 4294967295 < n → outcome 99 l [] ≡ eventRead word line l
   event-none h = on-true _ _ (lt-ltb 4294967295 n h) ∙ event-by
 
-  pub event-done : n ≤ 4294967295 → {x : Outcome} → x ≡ eventMade word (n % 4294967296) l → x ≡ eventRead word a l
+  pub event-done : n ≤ 4294967295 → {x : Outcome} → x ≡ eventMade word (n % 4294967296) l → x ≡ eventRead word line l
   event-done h f = past _ _ (le-ltb 4294967295 n h) f ∙ event-by
 
 -- a word that is none of the events

@@ -1,11 +1,11 @@
 -- The calls of the worked examples, by the definitions that the exported calls promise. No rule of document 01 is here.
 use Prim.Native.Nat.{ℕ, zero, suc, _%_}
-use mathlib.Core.Bool.{cond, not, _||_}
+use mathlib.Core.Bool.{cond, _||_}
 use mathlib.Core.List.{List, []}
 use lib.Dec.{eqb, ltb}
 use lib.ListN.{take, replicate}
-use Rattle.notation.specs.declared.Reading.{Reading}
-use Rattle.notation.specs.Reading.{start, readAll, filled}
+use Rattle.notation.specs.Reading.{start, filled}
+use Rattle.notation.specs.Line.{part, endOf, numberOf}
 use Rattle.stled325.specs.Outcome.{Outcome, outcome}
 use Rattle.stled325.specs.Calls.{powerUpCall, tickCall, sampleCall, readyCall, wakeUpCall, frameCall, supplyReturnCall, showCall, linesCall}
 use Rattle.stled325.specs.Command.{commandCall}
@@ -21,21 +21,14 @@ ticksMade (suc n) l = cond (eqb (tickCall l .number) 0) (ticksMade n (tickCall l
 
 -- the arguments of a command, as bytes
 abbrev pub argumentsIn : List ℕ → List ℕ
-argumentsIn arguments = filled (start 0) arguments (replicate 24 0)
+argumentsIn line = filled start (part 32 62 line) (replicate 24 0)
 
 -- a command of at most 24 bytes
-abbrev pub commandFrom : Reading → List ℕ → List ℕ → List ℕ → Outcome
-commandFrom s bytes l o = cond (not (s .readable)) (noCall l o) (cond (ltb 24 (s .at)) (noCall l o) (commandCall l (take (s .at) bytes) o))
+abbrev pub commandFrom : ℕ → List ℕ → List ℕ → List ℕ → Outcome
+commandFrom n bytes l o = cond (ltb 24 n) (noCall l o) (commandCall l (take n bytes) o)
 
 unfoldable pub commandMade : List ℕ → List ℕ → List ℕ → Outcome
-commandMade arguments l o = commandFrom (readAll (start 0) arguments) (argumentsIn arguments) l o
-
--- the number that arguments of at most five bytes write, of ticks (t) and of an outage (o) in decimal; else more than 32 bits hold
-abbrev pub numberBy : ℕ → Reading → ℕ
-numberBy word s = cond (not (s .readable) || ltb 5 (s .at)) 4294967296 (cond (eqb word 116 || eqb word 111) (s .decimal) (s .number))
-
-unfoldable pub numberIn : ℕ → List ℕ → ℕ
-numberIn word arguments = numberBy word (readAll (start 0) arguments)
+commandMade line l o = commandFrom (endOf 32 62 line) (argumentsIn line) l o
 
 -- the event of a word: frame, key, outage, power-up, ready, tick, wake-up
 unfoldable pub eventMade : ℕ → ℕ → List ℕ → Outcome
@@ -49,8 +42,9 @@ eventMade word n l =
 abbrev pub eventBy : ℕ → ℕ → List ℕ → Outcome
 eventBy word n l = cond (ltb 4294967295 n) (noCall l []) (eventMade word (n % 4294967296) l)
 
+-- an event with the number that its arguments write, of ticks (t) and of an outage (o) in decimal
 unfoldable pub eventRead : ℕ → List ℕ → List ℕ → Outcome
-eventRead word arguments l = eventBy word (numberIn word arguments) l
+eventRead word line l = eventBy word (numberOf 32 62 (eqb word 116 || eqb word 111) line) l
 
 -- an outcome that leaves the output as it was
 abbrev pub withOutput : List ℕ → Outcome → Outcome
@@ -58,6 +52,6 @@ withOutput o x = outcome (x .number) (x .image) o
 
 -- the call of a word: command, lines, show, or an event
 unfoldable pub made : ℕ → List ℕ → List ℕ → List ℕ → Outcome
-made word arguments l o =
-    cond (eqb word 99) (commandMade arguments l o)
-    (cond (eqb word 108) (linesCall l o) (cond (eqb word 115) (showCall l o) (withOutput o (eventRead word arguments l))))
+made word line l o =
+    cond (eqb word 99) (commandMade line l o)
+    (cond (eqb word 108) (linesCall l o) (cond (eqb word 115) (showCall l o) (withOutput o (eventRead word line l))))

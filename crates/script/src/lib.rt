@@ -1,8 +1,8 @@
-// The calls of the worked examples as they are written: a word, which is known by its first letter, and its arguments.
+// The calls of the worked examples as their lines write them: a word, which is known by its first letter, and its arguments, up to >.
 ghost use mathlib.Core.Path.{_≡_};
 ghost use mathlib.Core.List.{[]};
 ghost use Rattle.stled325.specs.Outcome.{outcome};
-ghost use Rattle.script.specs.Script.{ticksMade, commandMade, numberIn, eventMade, eventRead, made};
+ghost use Rattle.script.specs.Script.{ticksMade, commandMade, eventMade, eventRead, made};
 use stled325::stled325_command;
 use stled325::stled325_key_sample;
 use stled325::stled325_lines;
@@ -16,9 +16,6 @@ use stled325::stled325_wake_up;
 
 // The number of what is no call.
 pub const NO_CALL: u32 = 99;
-
-// What is no number of 32 bits.
-const NO_NUMBER: u64 = 4_294_967_296;
 
 // Ticks up to the first refusal.
 fn ticks(image: &mut [u8], n: u32) -> u32
@@ -36,34 +33,15 @@ fn ticks(image: &mut [u8], n: u32) -> u32
 }
 
 // A command of the bytes that are written.
-fn command(image: &mut [u8], arguments: &[u8], out: &mut [u8]) -> u32
-    ensures { λ r. ⌜ outcome r (now (image .exit)) (now (out .exit)) ≡ commandMade (now (arguments .entry)) (now (image .entry)) (now (out .entry)) ⌝ }
+fn command(image: &mut [u8], line: &[u8], out: &mut [u8]) -> u32
+    ensures { λ r. ⌜ outcome r (now (image .exit)) (now (out .exit)) ≡ commandMade (now (line .entry)) (now (image .entry)) (now (out .entry)) ⌝ }
 {
     let mut bytes = [0u8; 24];
-    let given = notation::fill(arguments, &mut bytes, 0);
-    let n = given.at;
-    if !given.readable {
-        return NO_CALL;
-    }
+    let n = notation::fill(line, b' ', b'>', &mut bytes);
     if n > 24 {
         return NO_CALL;
     }
     stled325_command(image, &bytes[0..n], out)
-}
-
-// The number that the arguments of an event write; of ticks and of an outage it is decimal.
-fn number(word: u8, arguments: &[u8]) -> u64
-    ensures { λ r. ⌜ r ≡ numberIn word (now (arguments .entry)) ⌝ }
-{
-    let mut bytes = [0u8; 5];
-    let given = notation::fill(arguments, &mut bytes, 0);
-    if !given.readable | (given.at > 5) {
-        return NO_NUMBER;
-    }
-    if (word == b't') | (word == b'o') {
-        return given.decimal;
-    }
-    given.number
 }
 
 // An event of a word.
@@ -82,25 +60,26 @@ fn event(word: u8, image: &mut [u8], n: u32) -> u32
     }
 }
 
-// An event with its arguments.
-fn event_after(word: u8, image: &mut [u8], arguments: &[u8]) -> u32
-    ensures { λ r. ⌜ outcome r (now (image .exit)) [] ≡ eventRead word (now (arguments .entry)) (now (image .entry)) ⌝ }
+// An event with its arguments. The number of ticks and of an outage is decimal.
+fn event_after(word: u8, image: &mut [u8], line: &[u8]) -> u32
+    ensures { λ r. ⌜ outcome r (now (image .exit)) [] ≡ eventRead word (now (line .entry)) (now (image .entry)) ⌝ }
 {
-    let n = number(word, arguments);
+    let decimal = (word == b't') | (word == b'o');
+    let n = notation::number(line, b' ', b'>', decimal);
     if n > 4_294_967_295 {
         return NO_CALL;
     }
     event(word, image, (n % 4_294_967_296) as u32)
 }
 
-// The call of a word.
-pub fn call(word: u8, image: &mut [u8], arguments: &[u8], out: &mut [u8]) -> u32
-    ensures { λ r. ⌜ outcome r (now (image .exit)) (now (out .exit)) ≡ made word (now (arguments .entry)) (now (image .entry)) (now (out .entry)) ⌝ }
+// The call of a word, which begins the line.
+pub fn call(word: u8, image: &mut [u8], line: &[u8], out: &mut [u8]) -> u32
+    ensures { λ r. ⌜ outcome r (now (image .exit)) (now (out .exit)) ≡ made word (now (line .entry)) (now (image .entry)) (now (out .entry)) ⌝ }
 {
     match word {
-        b'c' => command(image, arguments, out),
+        b'c' => command(image, line, out),
         b'l' => stled325_lines(image, out),
         b's' => stled325_show(image, out),
-        _ => event_after(word, image, arguments),
+        _ => event_after(word, image, line),
     }
 }

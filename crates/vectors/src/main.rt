@@ -7,21 +7,20 @@ use bytes::scan::find;
 use libc::STDIN_FILENO;
 
 // Runs the lines one after the other.
-fn run(script: &[u8], images: &mut [u8]) {
-    let mut status = example::NONE;
+fn run(script: &[u8]) {
+    let mut image = [0u8; 66];
+    let mut well = false;
     let mut at = 0;
     while at < script.len() {
-        let rest = &script[at..];
-        let end = find(rest, 0, rest.len(), b'\n');
-        status = example::run_line(&rest[0..end], images, status);
-        at += end + 1;
+        let end = find(script, at, script.len(), b'\n');
+        well = example::run_line(&script[at..end], &mut image, well);
+        at = end + 1;
     }
-    example::close(status);
+    report::close(well);
 }
 
 fn main() {
     let mut script = io::large_buffer();
     let n = io::read_full(STDIN_FILENO, &mut script);
-    let mut images = [0u8; 132];
-    run(&script[..n], &mut images);
+    run(&script[..n]);
 }

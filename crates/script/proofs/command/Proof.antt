@@ -1,5 +1,5 @@
 -- `script::command` meets its contract. Assumes nothing.
-use Rattle.script.proofs.Made.{command-unread, command-long, command-sent}
+use Rattle.script.proofs.Made.{command-long, command-sent}
 use borrow.Author.Needs.{needs}
 use Rattle.script.proofs.command.Statement.{statement}
 use Rattle.script.proofs.command.Tie as tie
@@ -12,13 +12,8 @@ fill-requires c κs = search needs
 
 returns : tie.Need-returns
 returns c =
-    let t = c .before .before .before .fill in
-    command-unread _ _ (t .ensures .0) _ _ _ (t .ensures .1) (c .if1 .taken)
-
-returns-2 : tie.Need-returns-2
-returns-2 c =
-    let t = c .before .before .before .before .fill in
-    command-long _ _ (t .ensures .0) _ _ _ (t .ensures .1) (c .before .if1 .left) (c .if2 .taken)
+    let t = c .before .before .fill in
+    command-long _ _ (t .ensures .0) _ (t .ensures .1) _ _ (c .if1 .taken)
 
 sub-stled325-command : tie.Need-sub-stled325-command
 sub-stled325-command c = search needs
@@ -38,11 +33,8 @@ same-length c = search needs
 same-length-2 : tie.Need-same-length-2
 same-length-2 c = search needs
 
-returns-3 : tie.Need-returns-3
-returns-3 c =
-    let b = c .before .before .before .before .before .before .before .before .before in
-    let t = b .before .before .before .before .fill in
-    command-sent _ _ (t .ensures .0) _ _ _ (t .ensures .1) (b .before .if1 .left) (b .if2 .left) (c .before .before .before .before .stled325-command .ensures)
+returns-2 : tie.Need-returns-2
+returns-2 c = search (command-sent, needs)
 
 pub command-spec : {M : Type 1} → statement M
 command-spec =
@@ -51,11 +43,10 @@ command-spec =
     slice-aggregate-fill
     fill-requires
     returns
-    returns-2
     sub-stled325-command
     part-stled325-command-start
     part-stled325-command-end
     stled325-command-requires
     same-length
     same-length-2
-    returns-3)
+    returns-2)

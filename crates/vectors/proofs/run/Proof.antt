@@ -1,7 +1,5 @@
--- `vectors::run` ends and stays within its memory. The invariant: at is at most one past the script, and the images keep
--- their length. Assumes the kit's contract of `write`.
+-- `vectors::run` ends and stays within its memory. The invariant: at is at most one past the script. Assumes the kit's contract of `write`.
 use Prim.Native.Nat.{_≤_, _+_, _-_}
-use mathlib.Core.Path.{_≡_}
 use lib.ListN.{length}
 use native.Mathlib.Omega.{arith}
 use borrow.Author.Needs.{needs}
@@ -9,22 +7,13 @@ use Rattle.vectors.proofs.run.Statement.{statement}
 use Rattle.vectors.proofs.run.Tie as tie
 
 abbrev Inv-loop : tie.InvT-loop
-Inv-loop script images₀ status₀ at₀ images status at = (at ≤ length script + 1) × (length images ≡ length images₀)
+Inv-loop script image₀ well₀ at₀ image well at = at ≤ length script + 1
 
 abbrev μ-loop : tie.MeasureT-loop
-μ-loop script images₀ status₀ at₀ images status at = length script + 1 - at
+μ-loop script image₀ well₀ at₀ image well at = length script + 1 - at
 
 loop-holds : tie.Need-loop-holds Inv-loop μ-loop
-loop-holds c = (omega arith, omega arith)
-
-sub-rest : tie.Need-sub-rest Inv-loop μ-loop
-sub-rest c = omega arith
-
-part-rest-start : tie.Need-part-rest-start Inv-loop μ-loop
-part-rest-start c = omega arith
-
-part-rest-end : tie.Need-part-rest-end Inv-loop μ-loop
-part-rest-end c = omega arith
+loop-holds c = omega arith
 
 find-requires : tie.Need-find-requires Inv-loop μ-loop
 find-requires c κs = search needs
@@ -44,20 +33,14 @@ run-line-requires c κs = tt
 add-at : tie.Need-add-at Inv-loop μ-loop
 add-at c = omega arith
 
-add-at-2 : tie.Need-add-at-2 Inv-loop μ-loop
-add-at-2 c = omega arith
-
 loop-less : tie.Need-loop-less Inv-loop μ-loop
 loop-less c = omega arith
 
 loop-again : tie.Need-loop-again Inv-loop μ-loop
-loop-again c = (omega arith, omega arith)
+loop-again c = omega arith
 
 close-requires : tie.Need-close-requires Inv-loop μ-loop
 close-requires c κs = tt
-
-same-length : tie.Need-same-length Inv-loop μ-loop
-same-length c = omega arith
 
 returns : tie.Need-returns Inv-loop μ-loop
 returns c = tt
@@ -69,18 +52,13 @@ run-spec =
     Inv-loop
     μ-loop
     loop-holds
-    sub-rest
-    part-rest-start
-    part-rest-end
     find-requires
     sub-run-line
     part-run-line-start
     part-run-line-end
     run-line-requires
     add-at
-    add-at-2
     loop-less
     loop-again
     close-requires
-    same-length
     returns)

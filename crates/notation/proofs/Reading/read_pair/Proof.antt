@@ -13,20 +13,17 @@ add-digits c = search needs
 cast-self : tie.Need-cast-self
 cast-self c = search needs
 
+returns : tie.Need-returns
+returns c = on-true _ _ (c .if1 .taken)
+
 add-self : tie.Need-add-self
 add-self c = search needs
-
-returns : tie.Need-returns
-returns c = on-true _ _ (c .before .if1 .taken)
-
-add-self-2 : tie.Need-add-self-2
-add-self-2 c = search needs
 
 mul-self : tie.Need-mul-self
 mul-self c = search needs
 
-add-self-3 : tie.Need-add-self-3
-add-self-3 c = search needs
+add-self-2 : tie.Need-add-self-2
+add-self-2 c = search needs
 
 mul-self-2 : tie.Need-mul-self-2
 mul-self-2 c = search needs
@@ -34,8 +31,8 @@ mul-self-2 c = search needs
 cast-self-2 : tie.Need-cast-self-2
 cast-self-2 c = search needs
 
-add-self-4 : tie.Need-add-self-4
-add-self-4 c = search needs
+add-self-3 : tie.Need-add-self-3
+add-self-3 c = search needs
 
 returns-2 : tie.Need-returns-2
 returns-2 c = on-false _ _ (c .before .before .before .if1 .left)
@@ -47,12 +44,11 @@ read-pair-spec =
     mul-digits
     add-digits
     cast-self
-    add-self
     returns
-    add-self-2
+    add-self
     mul-self
-    add-self-3
+    add-self-2
     mul-self-2
     cast-self-2
-    add-self-4
+    add-self-3
     returns-2)
