@@ -1,7 +1,7 @@
 // How the worked examples write bytes: pairs of hexadecimal digits, which go one after the other from place 0 on, and a new place behind @.
 ghost use mathlib.Core.Path.{_≡_};
 ghost use Prim.Native.Nat.{_+_, _*_, _/_, _%_, _≤_, min};
-ghost use lib.ListN.{length, getD};
+ghost use lib.ListN.{length, getD, set};
 ghost use Rattle.notation.specs.Reading.{digitOf, start, pairRead, digitRead, gapRead, read, stored, readAll, filled};
 ghost use Rattle.notation.specs.Line.{part, endOf, answerEnd, numberOf, same, isWritten};
 use bytes::scan::find;
@@ -120,7 +120,7 @@ fn store(bytes: &mut [u8], s: Reading, c: u8)
 }
 
 // Reads a text, and puts its bytes into a slice.
-fn read_all(text: &[u8], bytes: &mut [u8]) -> Reading
+fn read_all(bytes: &mut [u8], text: &[u8]) -> Reading
     ensures { λ r. ⌜ r ≡ readAll start (now (text .entry)) ⌝ }
     ensures { λ _. ⌜ now (bytes .exit) ≡ filled start (now (text .entry)) (now (bytes .entry)) ⌝ }
 {
@@ -152,11 +152,12 @@ fn part<'a>(line: &'a [u8], from: u8, to: u8) -> &'a [u8]
 }
 
 // Puts the bytes of a part of a line into a slice. The answer is the place behind the last of them.
-pub fn fill(line: &[u8], from: u8, to: u8, bytes: &mut [u8]) -> usize
+pub fn fill(bytes: &mut [u8], line: &[u8], from: u8, to: u8) -> usize
     ensures { λ r. ⌜ r ≡ endOf from to (now (line .entry)) ⌝ }
     ensures { λ _. ⌜ now (bytes .exit) ≡ filled start (part from to (now (line .entry))) (now (bytes .entry)) ⌝ }
 {
-    let read = read_all(part(line, from, to), bytes);
+    let text = part(line, from, to);
+    let read = read_all(bytes, text);
     if read.readable {
         return read.at;
     }
@@ -168,7 +169,8 @@ pub fn number(line: &[u8], from: u8, to: u8, decimal: bool) -> u64
     ensures { λ r. ⌜ r ≡ numberOf from to decimal (now (line .entry)) ⌝ }
 {
     let mut bytes = [0u8; 5];
-    let read = read_all(part(line, from, to), &mut bytes);
+    let text = part(line, from, to);
+    let read = read_all(&mut bytes, text);
     if !read.readable | (read.at > 5) {
         return NO_NUMBER;
     }
@@ -185,7 +187,7 @@ pub fn answer_end(line: &[u8]) -> usize
     ensures most { λ r. ⌜ r ≤ 66 ⌝ }
 {
     let mut bytes = [0u8; 1];
-    let end = fill(line, b'>', b'|', &mut bytes);
+    let end = fill(&mut bytes, line, b'>', b'|');
     if end < 1 {
         return 1;
     }
@@ -195,11 +197,12 @@ pub fn answer_end(line: &[u8]) -> usize
     end
 }
 
-// A number as two decimal digits.
-pub fn two_digits(n: u32) -> u8
-    ensures { λ r. ⌜ r ≡ n / 10 % 10 * 16 + n % 10 ⌝ }
+// An answer with its number, as two decimal digits, in front.
+pub fn numbered(mut answer: [u8; 66], number: u32) -> [u8; 66]
+    ensures { λ r. ⌜ r ≡ set answer 0 (number / 10 % 10 * 16 + number % 10) ⌝ }
 {
-    (n / 10 % 10 * 16 + n % 10) as u8
+    answer[0] = (number / 10 % 10 * 16 + number % 10) as u8;
+    answer
 }
 
 // How many bytes of an image are lent to a call.
@@ -227,7 +230,7 @@ fn are_same(got: [u8; 66], want: [u8; 66]) -> bool
 pub fn is_written(line: &[u8], from: u8, to: u8, mut bytes: [u8; 66], got: [u8; 66]) -> bool
     ensures { λ r. ⌜ r ≡ isWritten from to (now (line .entry)) bytes got ⌝ }
 {
-    let end = fill(line, from, to, &mut bytes);
+    let end = fill(&mut bytes, line, from, to);
     if end > 66 {
         return false;
     }

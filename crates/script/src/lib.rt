@@ -33,11 +33,11 @@ fn ticks(image: &mut [u8], n: u32) -> u32
 }
 
 // A command of the bytes that are written.
-fn command(image: &mut [u8], line: &[u8], out: &mut [u8]) -> u32
+fn command(image: &mut [u8], out: &mut [u8], line: &[u8]) -> u32
     ensures { λ r. ⌜ outcome r (now (image .exit)) (now (out .exit)) ≡ commandMade (now (line .entry)) (now (image .entry)) (now (out .entry)) ⌝ }
 {
     let mut bytes = [0u8; 24];
-    let n = notation::fill(line, b' ', b'>', &mut bytes);
+    let n = notation::fill(&mut bytes, line, b' ', b'>');
     if n > 24 {
         return NO_CALL;
     }
@@ -45,7 +45,7 @@ fn command(image: &mut [u8], line: &[u8], out: &mut [u8]) -> u32
 }
 
 // An event of a word.
-fn event(word: u8, image: &mut [u8], n: u32) -> u32
+fn event(image: &mut [u8], word: u8, n: u32) -> u32
     ensures { λ r. ⌜ outcome r (now (image .exit)) [] ≡ eventMade word n (now (image .entry)) ⌝ }
 {
     match word {
@@ -61,7 +61,7 @@ fn event(word: u8, image: &mut [u8], n: u32) -> u32
 }
 
 // An event with its arguments. The number of ticks and of an outage is decimal.
-fn event_after(word: u8, image: &mut [u8], line: &[u8]) -> u32
+fn event_after(image: &mut [u8], word: u8, line: &[u8]) -> u32
     ensures { λ r. ⌜ outcome r (now (image .exit)) [] ≡ eventRead word (now (line .entry)) (now (image .entry)) ⌝ }
 {
     let decimal = (word == b't') | (word == b'o');
@@ -69,17 +69,17 @@ fn event_after(word: u8, image: &mut [u8], line: &[u8]) -> u32
     if n > 4_294_967_295 {
         return NO_CALL;
     }
-    event(word, image, (n % 4_294_967_296) as u32)
+    event(image, word, (n % 4_294_967_296) as u32)
 }
 
 // The call of a word, which begins the line.
-pub fn call(word: u8, image: &mut [u8], line: &[u8], out: &mut [u8]) -> u32
+pub fn call(image: &mut [u8], out: &mut [u8], word: u8, line: &[u8]) -> u32
     ensures { λ r. ⌜ outcome r (now (image .exit)) (now (out .exit)) ≡ made word (now (line .entry)) (now (image .entry)) (now (out .entry)) ⌝ }
 {
     match word {
-        b'c' => command(image, line, out),
+        b'c' => command(image, out, line),
         b'l' => stled325_lines(image, out),
         b's' => stled325_show(image, out),
-        _ => event_after(word, image, line),
+        _ => event_after(image, word, line),
     }
 }

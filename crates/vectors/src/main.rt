@@ -1,5 +1,5 @@
 // Runs the worked examples of the file stdin, which says how they are written, over the exported calls. It prints a line for each: its
-// number, its name and ok, or FAILED with what was got.
+// number, its name and ok, or FAILED with the lines that did not go as written.
 mod example;
 mod report;
 
@@ -9,14 +9,14 @@ use libc::STDIN_FILENO;
 // Runs the lines one after the other.
 fn run(script: &[u8]) {
     let mut image = [0u8; 66];
-    let mut well = false;
+    let mut passing = false;
     let mut at = 0;
     while at < script.len() {
         let end = find(script, at, script.len(), b'\n');
-        well = example::run_line(&script[at..end], &mut image, well);
+        passing = example::run_line(&mut image, &script[at..end], passing);
         at = end + 1;
     }
-    report::close(well);
+    report::close(passing);
 }
 
 fn main() {

@@ -1,24 +1,20 @@
 // What the program prints.
 use libc::STDOUT_FILENO;
 
-pub fn print(text: &[u8]) {
-    io::write_all(STDOUT_FILENO, text);
-}
-
 // The open example ends.
-pub fn close(well: bool) {
-    if well {
-        print(b" ok\n");
+pub fn close(passing: bool) {
+    if passing {
+        io::write_all(STDOUT_FILENO, b" ok\n");
     }
 }
 
 // A line that did not go as written prints, and fails its example.
-pub fn judge(line: &[u8], right: bool, well: bool) -> bool {
+pub fn judge(line: &[u8], right: bool, passing: bool) -> bool {
     if right {
-        return well;
+        return passing;
     }
-    print(b" FAILED\n  ");
-    print(line);
-    print(b"\n");
+    io::write_all(STDOUT_FILENO, b" FAILED\n  ");
+    io::write_all(STDOUT_FILENO, line);
+    io::write_all(STDOUT_FILENO, b"\n");
     false
 }

@@ -9,12 +9,12 @@ use Rattle.notation.proofs.read_all.Statement.{statement}
 use Rattle.notation.proofs.read_all.Tie as tie
 
 abbrev Inv-loop : tie.InvT-loop
-Inv-loop text bytes₀ s₀ i₀ bytes s i =
+Inv-loop bytes₀ text s₀ i₀ bytes s i =
     (i ≤ length text) × (length bytes ≡ length bytes₀) × (readAll s (drop i text) ≡ readAll start text)
     × (filled s (drop i text) bytes ≡ filled start text bytes₀)
 
 abbrev μ-loop : tie.MeasureT-loop
-μ-loop text bytes₀ s₀ i₀ bytes s i = length text - i
+μ-loop bytes₀ text s₀ i₀ bytes s i = length text - i
 
 loop-holds : tie.Need-loop-holds Inv-loop μ-loop
 loop-holds c = (omega arith, refl, refl, refl)

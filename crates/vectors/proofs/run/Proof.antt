@@ -7,10 +7,10 @@ use Rattle.vectors.proofs.run.Statement.{statement}
 use Rattle.vectors.proofs.run.Tie as tie
 
 abbrev Inv-loop : tie.InvT-loop
-Inv-loop script image₀ well₀ at₀ image well at = at ≤ length script + 1
+Inv-loop script image₀ passing₀ at₀ image passing at = at ≤ length script + 1
 
 abbrev μ-loop : tie.MeasureT-loop
-μ-loop script image₀ well₀ at₀ image well at = length script + 1 - at
+μ-loop script image₀ passing₀ at₀ image passing at = length script + 1 - at
 
 loop-holds : tie.Need-loop-holds Inv-loop μ-loop
 loop-holds c = omega arith
