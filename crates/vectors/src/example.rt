@@ -41,7 +41,7 @@ pub fn run_line(image: &mut [u8; 66], line: &[u8], passing: bool) -> bool {
     if word == b'#' {
         return passing;
     }
-    if word <= b'9' {
+    if (b'0' <= word) & (word <= b'9') {
         return open(image, line, passing);
     }
     let right = if word == b'g' {
