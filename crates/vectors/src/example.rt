@@ -25,14 +25,29 @@ fn open(image: &mut [u8; 66], line: &[u8], passing: bool) -> bool {
     true
 }
 
-// Makes the call of a line. Whether its answer and the image are as written.
+// Makes the call of a line. Its answer and the image, if one of them is not as written, print behind the marks that they are written behind.
 fn call(image: &mut [u8; 66], line: &[u8], word: u8) -> bool {
     let before = *image;
     let answer = make(image, line, word);
     let after = *image;
     let blank = [0xEEu8; 66];
-    notation::is_written(line, b'>', b'|', blank, answer)
-        & notation::is_written(line, b'|', b'\n', before, after)
+    let right = notation::is_written(line, b'>', b'|', blank, answer)
+        & notation::is_written(line, b'|', b'\n', before, after);
+    if !right {
+        report::fail(line);
+        report::print_got(b"  got > ", answer);
+        report::print_got(b"  got | ", after);
+    }
+    right
+}
+
+// Changes the image.
+fn given(image: &mut [u8; 66], line: &[u8]) -> bool {
+    let right = notation::fill(image, line, b' ', b'\n') <= IMAGE;
+    if !right {
+        report::fail(line);
+    }
+    right
 }
 
 // Runs one line. The answer is whether an example is open and all went as written.
@@ -44,10 +59,8 @@ pub fn run_line(image: &mut [u8; 66], line: &[u8], passing: bool) -> bool {
     if (b'0' <= word) & (word <= b'9') {
         return open(image, line, passing);
     }
-    let right = if word == b'g' {
-        notation::fill(image, line, b' ', b'\n') <= IMAGE
-    } else {
-        call(image, line, word)
-    };
-    report::judge(line, right, passing)
+    if word == b'g' {
+        return given(image, line) & passing;
+    }
+    call(image, line, word) & passing
 }

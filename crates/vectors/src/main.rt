@@ -1,5 +1,5 @@
 // Runs the worked examples of the file stdin, which says how they are written, over the exported calls. It prints a line for each: its
-// number, its name and ok, or FAILED with the lines that did not go as written.
+// number, its name and ok, or FAILED with the lines that did not go as written and what was got.
 mod example;
 mod report;
 
