@@ -6,9 +6,9 @@ use mathlib.Core.Logic.{⊎-elim}
 use mathlib.Core.List.{List, [], _∷_}
 use native.Mathlib.Omega.{arith}
 use lib.Dec.{eqb, ltb}
-use borrow.Author.Tests.{ltb-true, eq-eqb, ne-eqb}
+use borrow.Author.Tests.{ltb-true, lt-ltb, eq-eqb, ne-eqb}
 use Rattle.common.specs.Grounds.{Ground, firstGround}
-use Rattle.common.proofs.Choice.{on-true, on-false, by-cases, and-left, and-right}
+use Rattle.common.proofs.Choice.{on-true, on-false, by-cases, and-left, and-right, and-both}
 use Rattle.common.proofs.Grounds.{numbered, ground-none, zero-none}
 use Rattle.common.proofs.Order.{lt-or-le}
 use Rattle.demands.specs.Exact.{holdsAt, First, rising, Exact}
@@ -83,12 +83,18 @@ least-first n (g ∷ gs) r k f = by-cases (firstGround (g ∷ gs) ≡ k) (g .hol
         ∙ from
         (record { holds = sym (not-holding k g gs n′) ∙ f .holds; none-earlier = λ j h. sym (not-holding j g gs n′) ∙ f .none-earlier j h })
 
-pub exact : (number : ℕ) (gs : List Ground) → rising 0 gs ≡ true → numbered gs ≡ true → number ≡ firstGround gs → Exact number gs
-exact number gs r h e =
+rising-numbered : (n : ℕ) (gs : List Ground) → rising n gs ≡ true → numbered gs ≡ true
+rising-numbered n [] r = refl
+rising-numbered n (g ∷ gs) r =
+    and-both (ltb 0 (g .number)) (numbered gs) (lt-ltb 0 (g .number) (omega (arith, next-above n g gs r)))
+    (rising-numbered (g .number) gs (rest-rises n g gs r))
+
+pub exact : (number : ℕ) (gs : List Ground) → rising 0 gs ≡ true → number ≡ firstGround gs → Exact number gs
+exact number gs r e =
     record {
       is-first = e;
       grounded = λ k z q. first-least 0 gs r k z (sym e ∙ q);
       refused = λ k f. e ∙ least-first 0 gs r k f;
-      groundless = λ z. zero-none gs h (sym e ∙ z);
+      groundless = λ z. zero-none gs (rising-numbered 0 gs r) (sym e ∙ z);
       accepted = λ none. e ∙ sym (ground-none gs none);
     }

@@ -7,7 +7,6 @@ use lib.Dec.{eqb}
 use borrow.Author.Tests.{eqb-false}
 use Rattle.common.specs.Grounds.{Ground, firstGround}
 use Rattle.common.proofs.Choice.{of-cond}
-use Rattle.common.proofs.Grounds.{numbered}
 use Rattle.command.specs.Refusals.{groundsBy}
 use Rattle.stled325.specs.Outcome.{Outcome, outcome, decided}
 use Rattle.stled325.proofs.Decided.{decided-number}
@@ -65,18 +64,5 @@ grounds-rise show l o = refl
 grounds-rise lines l o = refl
 grounds-rise (supplyReturn n) l o = refl
 
-grounds-numbered : (e : Event) (l o : List ℕ) → numbered (groundsOf e l o) ≡ true
-unfolding groundsBy
-grounds-numbered powerUp l o = refl
-grounds-numbered tick l o = refl
-grounds-numbered (sample n) l o = refl
-grounds-numbered (frame n) l o = refl
-grounds-numbered (ready level) l o = refl
-grounds-numbered (wakeUp level) l o = refl
-grounds-numbered (command s) l o = refl
-grounds-numbered show l o = refl
-grounds-numbered lines l o = refl
-grounds-numbered (supplyReturn n) l o = refl
-
 pub grounds-exact : (e : Event) (l o : List ℕ) → Exact (after e l o .number) (groundsOf e l o)
-grounds-exact e l o = exact (after e l o .number) (groundsOf e l o) (grounds-rise e l o) (grounds-numbered e l o) (number-first e l o)
+grounds-exact e l o = exact (after e l o .number) (groundsOf e l o) (grounds-rise e l o) (number-first e l o)
