@@ -1,9 +1,9 @@
--- `vectors::report::print_got` ends and stays within its memory. The invariant: i is within the bytes got. Assumes the kit's contract of `write`.
+-- `vectors::print_got` ends and stays within its memory. The invariant: i is within the bytes got. Assumes the kit's contract of `write`.
 use Prim.Native.Nat.{_≤_, _-_}
 use native.Mathlib.Omega.{arith}
 use borrow.Author.Needs.{needs}
-use Rattle.vectors.proofs.report.print_got.Statement.{statement}
-use Rattle.vectors.proofs.report.print_got.Tie as tie
+use Rattle.vectors.proofs.print_got.Statement.{statement}
+use Rattle.vectors.proofs.print_got.Tie as tie
 
 abbrev Inv-loop : tie.InvT-loop
 Inv-loop mark got i₀ t5 i = i ≤ 66
