@@ -22,6 +22,20 @@ const WAKE_UP: u8 = 2;
 
 const RTC: u8 = 1;
 
+// Bits of the configuration: b0 the guard's end begins standby, b1 every key is hot, b2 a remote key wakes, b5 WAKE_UP counts.
+const GUARD_SLEEPS: u8 = 1;
+
+const EVERY_KEY_HOT: u8 = 2;
+
+const REMOTE_WAKES: u8 = 4;
+
+const WAKE_UP_COUNTS: u8 = 32;
+
+// Bits of the flags.
+pub const ALARM_FLAG: u8 = 1;
+
+const WATCHDOG_FLAG: u8 = 2;
+
 // The clock registers, the sixteenths, the flags (b0 alarm, b1 watchdog) and what is left of the watchdog, 0 where it is not running.
 pub struct Rtc {
     pub registers: [u8; 16],

@@ -3,6 +3,7 @@ ghost use mathlib.Core.Path.{_≡_};
 ghost use Rattle.controller.specs.Pins.{readySet, wakeUpSet};
 use crate::Core;
 use crate::WAKE_UP;
+use crate::WAKE_UP_COUNTS;
 use units::Sixteenths;
 
 impl Core {
@@ -38,7 +39,7 @@ impl Core {
         }
         power.wakeup = level;
         self.power = power;
-        if level & common::bit(self.setup.configuration, 32) {
+        if level & common::bit(self.setup.configuration, WAKE_UP_COUNTS) {
             return self.raise(WAKE_UP);
         }
         self

@@ -3,6 +3,7 @@ ghost use mathlib.Core.Path.{_≡_};
 ghost use Rattle.controller.specs.Remote.{keyed};
 use crate::Core;
 use crate::REMOTE;
+use crate::REMOTE_WAKES;
 use crate::Remote;
 
 impl Core {
@@ -16,7 +17,7 @@ impl Core {
             command,
         };
         self.remote = key;
-        if self.power.stby & !common::bit(self.setup.configuration, 4) {
+        if self.power.stby & !common::bit(self.setup.configuration, REMOTE_WAKES) {
             return self;
         }
         self.raise(REMOTE)

@@ -2,6 +2,7 @@
 ghost use mathlib.Core.Path.{_≡_};
 ghost use Rattle.controller.specs.Keys.{counted, pressed, sampled};
 use crate::Core;
+use crate::EVERY_KEY_HOT;
 use crate::KEY;
 
 impl Core {
@@ -12,7 +13,7 @@ impl Core {
         if !self.power.stby {
             return new;
         }
-        if common::bit(self.setup.configuration, 2) {
+        if common::bit(self.setup.configuration, EVERY_KEY_HOT) {
             return new;
         }
         new & self.keys.mask

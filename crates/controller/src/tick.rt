@@ -1,8 +1,11 @@
 // A tick in its three steps.
 ghost use mathlib.Core.Path.{_≡_};
 ghost use Rattle.controller.specs.Tick.{secondPassed, clockTicked, watchdogTicked, guardTicked, ticked};
+use crate::ALARM_FLAG;
 use crate::Core;
+use crate::GUARD_SLEEPS;
 use crate::RTC;
+use crate::WATCHDOG_FLAG;
 use units::Sixteenths;
 
 impl Core {
@@ -18,7 +21,7 @@ impl Core {
         rtc.registers = moved;
         rtc.sixteenths = none;
         if registers::afe(registers) & alarm::match_second(timekeeper::alarm_of(registers), clock) {
-            rtc.flags = rtc.flags | 1;
+            rtc.flags = rtc.flags | ALARM_FLAG;
             self.rtc = rtc;
             return self.raise(RTC);
         }
@@ -61,7 +64,7 @@ impl Core {
         let fewer = Sixteenths(left - 1);
         rtc.watchdog = fewer;
         if (left == 1) & registers::wdfen(registers) {
-            rtc.flags = rtc.flags | 2;
+            rtc.flags = rtc.flags | WATCHDOG_FLAG;
             self.rtc = rtc;
             return self.raise(RTC);
         }
@@ -77,7 +80,7 @@ impl Core {
         if left == 0 {
             return self;
         }
-        if (left == 1) & common::bit(self.setup.configuration, 1) {
+        if (left == 1) & common::bit(self.setup.configuration, GUARD_SLEEPS) {
             return self.begin_standby();
         }
         let fewer = Sixteenths(left - 1);

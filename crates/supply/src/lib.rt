@@ -8,10 +8,14 @@ ghost use Rattle.supply.specs.Return.{registersReturned, matchCounts, fl
 
 pub mod first_kind;
 
+use controller::ALARM_FLAG;
 use controller::Core;
 use controller::Rtc;
 use units::Seconds;
 use units::Sixteenths;
+
+// The bit of the interrupt byte that an RTC event sets with STBY low.
+const B4: u8 = 16;
 
 // The registers after n seconds without supply.
 fn return_registers(registers: [u8; 16], n: Seconds) -> [u8; 16]
@@ -49,7 +53,7 @@ fn return_flags(registers: [u8; 16], flags: u8, n: Seconds) -> u8
     ensures { λ r. ⌜ r ≡ flagsReturned (n .0) registers flags ⌝ }
 {
     if match_counts(registers, n) {
-        return flags | 1;
+        return flags | ALARM_FLAG;
     }
     flags
 }
@@ -77,7 +81,11 @@ fn return_rtc(r: Rtc, n: Seconds) -> Rtc
 fn interrupt_for(flags: u8) -> u8
     ensures { λ r. ⌜ r ≡ interruptFor flags ⌝ }
 {
-    if common::bit(flags, 1) { 16 } else { 0 }
+    if common::bit(flags, ALARM_FLAG) {
+        B4
+    } else {
+        0
+    }
 }
 
 // The state that both panel kinds share after n seconds without supply: power-up's, but for the clock and b4.
