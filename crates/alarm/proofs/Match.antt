@@ -27,7 +27,7 @@ split false d m w = refl
 module _ (a : Alarm) (c : Clock) (t : ℕ) where
   match-split : matches a (atTime c t) ≡ (timeFits a t && dayFits a c)
   unfolding matches timeFits dayFits
-  match-split = split (conj (fits (a .second) (t % 60) ∷ fits (a .minute) (t / 60 % 60) ∷ fits (a .hour) (t / 3600) ∷ [])) (fits (a .date) (c .date)) (fits (a .month) (c .month)) (fits (a .weekday) (c .weekday))
+  match-split = split (conj (fits (a .second) (t % 60) ∷ fits (a .minute) (t / 60 % 60) ∷ fits (a .hour) (t / 3_600) ∷ [])) (fits (a .date) (c .date)) (fits (a .month) (c .month)) (fits (a .weekday) (c .weekday))
 
   pub day-not : dayFits a c ≡ false → matches a (atTime c t) ≡ false
   day-not e = match-split ∙ ap (λ (b : Bool). timeFits a t && b) e ∙ and-false (timeFits a t)
@@ -47,36 +47,36 @@ middle-not : (s m h : Bool) → m ≡ false → ((s && m) && h) ≡ false
 middle-not s m h e = ap (λ (b : Bool). (s && b) && h) e ∙ ap (λ (b : Bool). b && h) (and-false s)
 
 module _ (a : Alarm) (u : ℕ) where
-  hour-not : fits (a .hour) (u / 3600) ≡ false → (w : ℕ) → u ≤ w → w < (u / 3600 + 1) * 3600 → timeFits a w ≡ false
+  hour-not : fits (a .hour) (u / 3_600) ≡ false → (w : ℕ) → u ≤ w → w < (u / 3_600 + 1) * 3_600 → timeFits a w ≡ false
   unfolding timeFits
   hour-not e w l h =
-      let q : w / 3600 ≡ u / 3600 = omega arith in
-      last-not (fits (a .second) (w % 60)) (fits (a .minute) (w / 60 % 60)) (fits (a .hour) (w / 3600)) (ap (fits (a .hour)) q ∙ e)
+      let q : w / 3_600 ≡ u / 3_600 = omega arith in
+      last-not (fits (a .second) (w % 60)) (fits (a .minute) (w / 60 % 60)) (fits (a .hour) (w / 3_600)) (ap (fits (a .hour)) q ∙ e)
 
   minute-not : fits (a .minute) (u / 60 % 60) ≡ false → (w : ℕ) → u ≤ w → w < (u / 60 + 1) * 60 → timeFits a w ≡ false
   unfolding timeFits
   minute-not e w l h =
       let q : w / 60 % 60 ≡ u / 60 % 60 = omega arith in
-      middle-not (fits (a .second) (w % 60)) (fits (a .minute) (w / 60 % 60)) (fits (a .hour) (w / 3600)) (ap (fits (a .minute)) q ∙ e)
+      middle-not (fits (a .second) (w % 60)) (fits (a .minute) (w / 60 % 60)) (fits (a .hour) (w / 3_600)) (ap (fits (a .minute)) q ∙ e)
 
   -- nothing fits before the next candidate, which is later and on the same day or at its end
   pub candidate-none : timeFits a u ≡ false → (w : ℕ) → u ≤ w → w < candidateAfter a u → timeFits a w ≡ false
   unfolding candidateAfter
   candidate-none e =
-      of-cond P (fits (a .hour) (u / 3600)) _ _
+      of-cond P (fits (a .hour) (u / 3_600)) _ _
       (λ f. of-cond P (fits (a .minute) (u / 60 % 60)) _ _ (λ g w l h. let q : w ≡ u = omega arith in ap (timeFits a) q ∙ e) (λ g. minute-not g))
       (λ f. hour-not f)
     where
       P : ℕ → Type 0
       P r = (w : ℕ) → u ≤ w → w < r → timeFits a w ≡ false
 
-  pub candidate-range : u < 86400 → (u < candidateAfter a u) × (candidateAfter a u ≤ 86400)
+  pub candidate-range : u < 86_400 → (u < candidateAfter a u) × (candidateAfter a u ≤ 86_400)
   unfolding candidateAfter
   candidate-range h =
-      of-cond P (fits (a .hour) (u / 3600)) _ _ (λ f. of-cond P (fits (a .minute) (u / 60 % 60)) _ _ (λ g. omega arith) (λ g. omega arith)) (λ f. omega arith)
+      of-cond P (fits (a .hour) (u / 3_600)) _ _ (λ f. of-cond P (fits (a .minute) (u / 60 % 60)) _ _ (λ g. omega arith) (λ g. omega arith)) (λ f. omega arith)
     where
       P : ℕ → Type 0
-      P r = (u < r) × (r ≤ 86400)
+      P r = (u < r) × (r ≤ 86_400)
 
 -- ---- a field that is no possible time never matches
 fit-in : (f : Field) (lo hi x : ℕ) → lo ≤ x → x ≤ hi → fits f x ≡ true → inRange f lo hi ≡ true

@@ -58,14 +58,14 @@ module _ (p : Clock → Bool) (c : Clock) where
 -- ---- a walk over the days, from the midnight m before the start
 module _ (p : Clock → Bool) where
   -- a second of the day d that stands base seconds behind the midnight m
-  pub on-day : (m d : Clock) (base u : ℕ) → d ≡ moved m base → timeOf d ≡ 0 → u < 86400 → p (moved m (base + u)) ≡ p (atTime d u)
+  pub on-day : (m d : Clock) (base u : ℕ) → d ≡ moved m base → timeOf d ≡ 0 → u < 86_400 → p (moved m (base + u)) ≡ p (atTime d u)
   on-day m d base u e z h =
       let v : Valid d = subst Valid (sym e) (moved-valid m base) in
       let t : timeOf d + u ≡ u = omega arith in
       ap p (sym (moved-moved m base u) ∙ ap (λ (x : Clock). moved x u) (sym e) ∙ within d u v (omega arith) ∙ ap (atTime d) t)
 
   -- no match before the second t of the day, and none from t up to u on it
-  pub further : (m d : Clock) (start base t u : ℕ) → d ≡ moved m base → timeOf d ≡ 0 → u ≤ 86400
+  pub further : (m d : Clock) (start base t u : ℕ) → d ≡ moved m base → timeOf d ≡ 0 → u ≤ 86_400
       → ((x : ℕ) → start < x → x < base + t → p (moved m x) ≡ false)
       → ((w : ℕ) → t ≤ w → w < u → p (atTime d w) ≡ false)
       → (x : ℕ) → start < x → x < base + u → p (moved m x) ≡ false
@@ -93,7 +93,7 @@ module _ (p : Clock → Bool) where
       shift k = ap p (from-midnight c k v ∙ (λ i. moved (sym em i) (sym es i + k)))
 
 -- the next day of the walk
-pub next-on : (m d r : Clock) (base : ℕ) → d ≡ moved m base → timeOf d ≡ 0 → r ≡ nextDay d → (r ≡ moved m (base + 86400)) × (timeOf r ≡ 0)
+pub next-on : (m d r : Clock) (base : ℕ) → d ≡ moved m base → timeOf d ≡ 0 → r ≡ nextDay d → (r ≡ moved m (base + 86_400)) × (timeOf r ≡ 0)
 next-on m d r base e z f =
-    let q : r ≡ moved d 86400 = f ∙ next-day-moved d (subst Valid (sym e) (moved-valid m base)) in
-    (q ∙ ap (λ (x : Clock). moved x 86400) e ∙ moved-moved m base 86400, omega (arith, ap timeOf q, time-moved d 86400))
+    let q : r ≡ moved d 86_400 = f ∙ next-day-moved d (subst Valid (sym e) (moved-valid m base)) in
+    (q ∙ ap (λ (x : Clock). moved x 86_400) e ∙ moved-moved m base 86_400, omega (arith, ap timeOf q, time-moved d 86_400))

@@ -44,7 +44,7 @@ possible a =
 
 -- the three fields of the time, at the second t of the day
 unfoldable pub timeFits : Alarm → ℕ → Bool
-timeFits a t = conj (fits (a .second) (t % 60) ∷ fits (a .minute) (t / 60 % 60) ∷ fits (a .hour) (t / 3600) ∷ [])
+timeFits a t = conj (fits (a .second) (t % 60) ∷ fits (a .minute) (t / 60 % 60) ∷ fits (a .hour) (t / 3_600) ∷ [])
 
 -- the three fields of the day
 unfoldable pub dayFits : Alarm → Clock → Bool

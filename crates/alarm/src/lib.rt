@@ -44,7 +44,7 @@ fn time_fits(a: Alarm, t: u32) -> bool
     let second = a.second;
     let minute = a.minute;
     let hour = a.hour;
-    field_fits(second, t % 60) & field_fits(minute, t / 60 % 60) & field_fits(hour, t / 3600)
+    field_fits(second, t % 60) & field_fits(minute, t / 60 % 60) & field_fits(hour, t / 3_600)
 }
 
 // Whether the day fits.
@@ -102,13 +102,13 @@ fn nearer(x: u32, y: u32) -> u32
 
 // Where to look on after the second u of the day did not fit: hours and minutes that cannot fit are passed over.
 fn candidate_after(a: Alarm, u: u32) -> u32
-    requires { ⌜ u < 86400 ⌝ }
+    requires { ⌜ u < 86_400 ⌝ }
     ensures { λ r. ⌜ r ≡ candidateAfter a u ⌝ }
 {
     let hour = a.hour;
     let minute = a.minute;
-    if !field_fits(hour, u / 3600) {
-        return (u / 3600 + 1) * 3600;
+    if !field_fits(hour, u / 3_600) {
+        return (u / 3_600 + 1) * 3_600;
     }
     if !field_fits(minute, u / 60 % 60) {
         return (u / 60 + 1) * 60;
@@ -118,10 +118,10 @@ fn candidate_after(a: Alarm, u: u32) -> u32
 
 // The first second of the day from t on at which the time fits, or 86,400; past the day, t itself.
 fn first_time(a: Alarm, t: u32) -> u32
-    ensures { λ r. ⌜ r ≡ firstFrom (timeFits a) t (86400 - t) ⌝ }
+    ensures { λ r. ⌜ r ≡ firstFrom (timeFits a) t (86_400 - t) ⌝ }
 {
     let mut u = t;
-    while u < 86400 {
+    while u < 86_400 {
         if time_fits(a, u) {
             return u;
         }
@@ -132,11 +132,11 @@ fn first_time(a: Alarm, t: u32) -> u32
 
 // The first second from t on at which the day of c matches, or 86,400.
 pub fn first_on_day(a: Alarm, c: Clock, t: u32) -> u32
-    requires { ⌜ t ≤ 86400 ⌝ }
-    ensures { λ r. ⌜ r ≡ firstFrom (λ u. matches a (atTime c u)) t (86400 - t) ⌝ }
+    requires { ⌜ t ≤ 86_400 ⌝ }
+    ensures { λ r. ⌜ r ≡ firstFrom (λ u. matches a (atTime c u)) t (86_400 - t) ⌝ }
 {
     if !day_fits(a, c) {
-        return 86400;
+        return 86_400;
     }
     first_time(a, t)
 }
@@ -154,11 +154,11 @@ fn walk_days(a: Alarm, c: Clock, n: u32) -> u32
     let mut from = start + 1;
     while base + from <= end {
         let u = first_on_day(a, day, from);
-        if u < 86400 {
+        if u < 86_400 {
             return nearer(base + u - start, n + 1);
         }
         day = calendar::next_day(day);
-        base += 86400;
+        base += 86_400;
         from = 0;
     }
     n + 1

@@ -23,10 +23,10 @@ module _ (c : Clock) (v : Valid c) where
   weekday = next-weekday (c .weekday) (v .weekday-low) (v .weekday-high)
 
   -- a date with the next number, round the calendar, is the clock a day later
-  is-day : (k y m d : ℕ) → k ≤ 3 → y ≤ 99 → Dated (100 * k + y) m d → dayNumber (100 * k + y) m d ≡ (days c + 1) % calendarDays → withDate c k y m d ≡ moved c 86400
+  is-day : (k y m d : ℕ) → k ≤ 3 → y ≤ 99 → Dated (100 * k + y) m d → dayNumber (100 * k + y) m d ≡ (days c + 1) % calendarDays → withDate c k y m d ≡ moved c 86_400
   unfolding count days
   is-day k y m d lk ly w e =
-      is-moved c (withDate c k y m d) 86400
+      is-moved c (withDate c k y m d) 86_400
       (record {
         century = lk;
         year = ly;
@@ -41,7 +41,7 @@ module _ (c : Clock) (v : Valid c) where
       (weekday ∙ ap (weekdayOn (c .weekday)) (omega (arith, time-below c v)))
 
   -- within the month, at its end, at the year's end, at the century's end, and round
-  step-date : c .date < monthLength (leap (fullYear c)) (c .month) → withDate c (c .century) (c .year) (c .month) (c .date + 1) ≡ moved c 86400
+  step-date : c .date < monthLength (leap (fullYear c)) (c .month) → withDate c (c .century) (c .year) (c .month) (c .date + 1) ≡ moved c 86_400
   unfolding days
   step-date h =
       is-day (c .century) (c .year) (c .month) (c .date + 1) (v .century) (v .year) w
@@ -54,7 +54,7 @@ module _ (c : Clock) (v : Valid c) where
     last : c .date ≡ monthLength (leap (fullYear c)) (c .month)
     last = omega (arith, v .dated .date-high)
 
-    step-month : c .month < 12 → withDate c (c .century) (c .year) (c .month + 1) 1 ≡ moved c 86400
+    step-month : c .month < 12 → withDate c (c .century) (c .year) (c .month + 1) 1 ≡ moved c 86_400
     unfolding days
     step-month l =
         is-day (c .century) (c .year) (c .month + 1) 1 (v .century) (v .year) w
@@ -65,7 +65,7 @@ module _ (c : Clock) (v : Valid c) where
 
     module _ (l : 12 ≤ c .month) where
       -- the first day of the following year, as the century k and the two digits y
-      new-year : (k y : ℕ) → k ≤ 3 → y ≤ 99 → 100 * k + y ≡ fullYear c + 1 → withDate c k y 1 1 ≡ moved c 86400
+      new-year : (k y : ℕ) → k ≤ 3 → y ≤ 99 → 100 * k + y ≡ fullYear c + 1 → withDate c k y 1 1 ≡ moved c 86_400
       unfolding days
       new-year k y lk ly e =
           is-day k y 1 1 lk ly w
@@ -79,7 +79,7 @@ module _ (c : Clock) (v : Valid c) where
           w : Dated (100 * k + y) 1 1
           w = first-of (100 * k + y) 1 (omega arith) (omega arith) (omega arith)
 
-      step-round : 99 ≤ c .year → 3 ≤ c .century → withDate c 0 0 1 1 ≡ moved c 86400
+      step-round : 99 ≤ c .year → 3 ≤ c .century → withDate c 0 0 1 1 ≡ moved c 86_400
       unfolding days
       step-round m n =
           is-day 0 0 1 1 (omega arith) (omega arith) (first-of 0 1 (omega arith) (omega arith) (omega arith))
@@ -89,7 +89,7 @@ module _ (c : Clock) (v : Valid c) where
             round (fullYear c) (c .month) (c .date) (v .dated) last (omega (arith, v .dated .month-high)) (omega (arith, v .dated .year)),
           ))
 
-  pub next-day-moved : nextDay c ≡ moved c 86400
+  pub next-day-moved : nextDay c ≡ moved c 86_400
   unfolding nextDay
   next-day-moved =
       of-cond P (ltb (c .date) (monthLength (leap (fullYear c)) (c .month))) _ _ (λ e. step-date (ltb-true _ _ e))
@@ -102,7 +102,7 @@ module _ (c : Clock) (v : Valid c) where
       (λ h. step-round (ltb-false _ _ e) (ltb-false _ _ f) (ltb-false _ _ g) (ltb-false _ _ h)))))
     where
       P : Clock → Type 0
-      P r = r ≡ moved c 86400
+      P r = r ≡ moved c 86_400
 
 -- ---- the next second
 
@@ -124,7 +124,7 @@ next-day-time c h m s =
     (withDate c (c .century) (c .year + 1) 1 1) (withDate c (c .century + 1) 0 1 1) (withDate c 0 0 1 1)
 
 module _ (c : Clock) (v : Valid c) where
-  in-day : (h m s : ℕ) → h ≤ 23 → m ≤ 59 → s ≤ 59 → 3600 * h + 60 * m + s ≡ timeOf c + 1 → withTime c h m s ≡ moved c 1
+  in-day : (h m s : ℕ) → h ≤ 23 → m ≤ 59 → s ≤ 59 → 3_600 * h + 60 * m + s ≡ timeOf c + 1 → withTime c h m s ≡ moved c 1
   in-day h m s x y z e =
       same (withTime c h m s) (atTime c (timeOf c + 1)) refl refl refl refl refl (omega arith) (omega arith) (omega arith)
       ∙ sym (within c 1 v (omega arith))

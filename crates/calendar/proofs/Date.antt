@@ -1,5 +1,5 @@
 -- Laws of the date and the day's number, both round trips. Of the leap rule only the days before a year are used, of the months that
--- none is empty and none longer than 31 days. Assumes nothing.
+-- none is empty, none longer than 31 days, and all twelve together 366 or 365. Assumes nothing.
 use mathlib.Core.Path.{_≡_, refl, sym, ap, subst, _∙_}
 use mathlib.Core.Bool.{Bool, true, false, cond, _||_}
 use Prim.Native.Nat.{ℕ, zero, suc, _+_, _-_, _*_, _/_, _%_, _≤_, _<_}
@@ -58,7 +58,7 @@ years-none = sums-none yearLength
 
 -- ---- the leap rule, counted
 
--- the days before the year y: 365 for each year, and one for each leap year
+-- the days before the year y: 365 for each year and one for each leap year, which are the multiples of 4 from 0 on, since 100 divides by 4
 abbrev pub daysBefore : ℕ → ℕ
 daysBefore y = 365 * y + (y + 3) / 4
 
@@ -67,7 +67,7 @@ unfolding monthsBefore sums monthLength
 year-days true = refl
 year-days false = refl
 
--- beside the proof of `is_leap` nothing else looks into the leap rule
+-- THE TOTAL of the leap rule: beside it only the proof of `is_leap` looks into the rule
 pub days-before : (y : ℕ) → yearsBefore y ≡ daysBefore y
 unfolding leap
 days-before zero = years-none

@@ -22,7 +22,7 @@ pub same : (a b : Clock) → a .century ≡ b .century → a .year ≡ b .year �
 same a b p q r s t u v w =
     λ i. record { century = p i; year = q i; month = r i; date = s i; weekday = t i; hour = u i; minute = v i; second = w i }
 
-pub time-below : (c : Clock) → Valid c → timeOf c < 86400
+pub time-below : (c : Clock) → Valid c → timeOf c < 86_400
 time-below c v = omega (arith, v .hour, v .minute, v .second)
 
 pub days-below : (c : Clock) → Valid c → days c < calendarDays
@@ -35,31 +35,31 @@ count-below c v = omega (arith, days-below c v, time-below c v)
 
 -- ---- from a count to a clock and back
 module _ (k w : ℕ) (h : k < cycle) where
-  year-is : fullYear (clockAt k w) ≡ yearAt (k / 86400)
+  year-is : fullYear (clockAt k w) ≡ yearAt (k / 86_400)
   unfolding clockAt
   year-is = omega arith
 
-  time-is : timeOf (clockAt k w) ≡ k % 86400
+  time-is : timeOf (clockAt k w) ≡ k % 86_400
   unfolding clockAt
   time-is = omega arith
 
-  days-is : days (clockAt k w) ≡ k / 86400
+  days-is : days (clockAt k w) ≡ k / 86_400
   unfolding days clockAt
   days-is =
-      ap (λ (y : ℕ). dayNumber y (monthAt (k / 86400)) (dateAt (k / 86400))) year-is ∙ number-at (k / 86400) (omega arith)
+      ap (λ (y : ℕ). dayNumber y (monthAt (k / 86_400)) (dateAt (k / 86_400))) year-is ∙ number-at (k / 86_400) (omega arith)
 
   pub count-at : count (clockAt k w) ≡ k
   unfolding count
   count-at = omega (arith, time-is, days-is)
 
-  dated-at : Dated (fullYear (clockAt k w)) (monthAt (k / 86400)) (dateAt (k / 86400))
-  dated-at = rw year-is (date-at (k / 86400) (omega arith))
+  dated-at : Dated (fullYear (clockAt k w)) (monthAt (k / 86_400)) (dateAt (k / 86_400))
+  dated-at = rw year-is (date-at (k / 86_400) (omega arith))
 
   pub valid-at : 1 ≤ w → w ≤ 7 → Valid (clockAt k w)
   unfolding clockAt
   valid-at l m =
       record {
-        century = omega (arith, year-most (k / 86400) (omega arith));
+        century = omega (arith, year-most (k / 86_400) (omega arith));
         year = omega arith;
         dated = dated-at;
         weekday-low = l;
@@ -82,10 +82,10 @@ at-count c v =
     (omega (arith, v .hour, v .minute, v .second))
     (omega (arith, v .hour, v .minute, v .second))
   where
-    q : count c / 86400 ≡ dayNumber (fullYear c) (c .month) (c .date)
+    q : count c / 86_400 ≡ dayNumber (fullYear c) (c .month) (c .date)
     q = omega (arith, time-below c v)
 
-    y : yearAt (count c / 86400) ≡ fullYear c
+    y : yearAt (count c / 86_400) ≡ fullYear c
     y = ap yearAt q ∙ year-of (fullYear c) (c .month) (c .date) (v .dated)
 
 -- ---- midnights and the weekday
@@ -98,9 +98,9 @@ pub midnights-counted : (k n : ℕ) → midnights k n ≡ multiples k n
 unfolding multiples
 midnights-counted k zero = omega arith
 midnights-counted k (suc n) =
-    of-cond (λ (x : ℕ). midnights k (suc n) ≡ multiples k n + x) (eqb ((k + suc n) % 86400) 0) 1 0
-    (λ e. omega (arith, midnights-counted k n, eqb-true ((k + suc n) % 86400) 0 e))
-    (λ e. let ne : (k + suc n) % 86400 ≡ 0 → ⊥ = eqb-false ((k + suc n) % 86400) 0 e in omega (arith, midnights-counted k n))
+    of-cond (λ (x : ℕ). midnights k (suc n) ≡ multiples k n + x) (eqb ((k + suc n) % 86_400) 0) 1 0
+    (λ e. omega (arith, midnights-counted k n, eqb-true ((k + suc n) % 86_400) 0 e))
+    (λ e. let ne : (k + suc n) % 86_400 ≡ 0 → ⊥ = eqb-false ((k + suc n) % 86_400) 0 e in omega (arith, midnights-counted k n))
 
 midnights-add : (k m n : ℕ) → midnights k m + midnights ((k + m) % cycle) n ≡ midnights k (m + n)
 midnights-add k m n = omega arith
@@ -151,7 +151,7 @@ moved-moved c m n =
 pub time-at : (c : Clock) (t : ℕ) → timeOf (atTime c t) ≡ t
 time-at c t = omega arith
 
-pub time-valid : (c : Clock) (t : ℕ) → Valid c → t < 86400 → Valid (atTime c t)
+pub time-valid : (c : Clock) (t : ℕ) → Valid c → t < 86_400 → Valid (atTime c t)
 time-valid c t v h =
     record {
       century = v .century;
@@ -164,13 +164,13 @@ time-valid c t v h =
       second = omega arith;
     }
 
-pub within : (c : Clock) (n : ℕ) → Valid c → timeOf c + n < 86400 → moved c n ≡ atTime c (timeOf c + n)
+pub within : (c : Clock) (n : ℕ) → Valid c → timeOf c + n < 86_400 → moved c n ≡ atTime c (timeOf c + n)
 unfolding count days
 within c n v h =
     sym (is-moved c (atTime c (timeOf c + n)) n (time-valid c (timeOf c + n) v h)
     (omega (arith, days-below c v, time-at c (timeOf c + n))) (omega (arith, v .weekday-low, v .weekday-high)))
 
-pub time-moved : (c : Clock) (n : ℕ) → timeOf (moved c n) ≡ (timeOf c + n) % 86400
+pub time-moved : (c : Clock) (n : ℕ) → timeOf (moved c n) ≡ (timeOf c + n) % 86_400
 unfolding moved clockAt count
 time-moved c n = omega arith
 
@@ -184,8 +184,8 @@ from-midnight c n v =
     back = same (atTime c (0 + timeOf c)) c refl refl refl refl refl (omega (arith, v .minute, v .second)) (omega (arith, v .minute, v .second)) (omega (arith, v .second))
 
 -- whole days from a midnight, and then a time of the day
-pub whole-days : (c : Clock) (q r : ℕ) → timeOf c ≡ 0 → r < 86400 → atTime (moved c (86400 * q)) r ≡ moved c (86400 * q + r)
+pub whole-days : (c : Clock) (q r : ℕ) → timeOf c ≡ 0 → r < 86_400 → atTime (moved c (86_400 * q)) r ≡ moved c (86_400 * q + r)
 whole-days c q r e h =
-    let z : timeOf (moved c (86400 * q)) ≡ 0 = omega (arith, time-moved c (86400 * q), e) in
-    let y : r ≡ timeOf (moved c (86400 * q)) + r = omega arith in
-    ap (atTime (moved c (86400 * q))) y ∙ sym (within (moved c (86400 * q)) r (moved-valid c (86400 * q)) (omega arith)) ∙ moved-moved c (86400 * q) r
+    let z : timeOf (moved c (86_400 * q)) ≡ 0 = omega (arith, time-moved c (86_400 * q), e) in
+    let y : r ≡ timeOf (moved c (86_400 * q)) + r = omega arith in
+    ap (atTime (moved c (86_400 * q))) y ∙ sym (within (moved c (86_400 * q)) r (moved-valid c (86_400 * q)) (omega arith)) ∙ moved-moved c (86_400 * q) r

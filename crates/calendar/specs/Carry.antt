@@ -13,7 +13,7 @@ withTime c h m s =
 
 -- the same day, at the second t of the day
 abbrev pub atTime : Clock → ℕ → Clock
-atTime c t = withTime c (t / 3600) (t / 60 % 60) (t % 60)
+atTime c t = withTime c (t / 3_600) (t / 60 % 60) (t % 60)
 
 -- weekday goes 7 to 1
 abbrev pub nextWeekday : ℕ → ℕ

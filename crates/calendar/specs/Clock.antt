@@ -7,7 +7,7 @@ use Rattle.calendar.specs.Date.{Dated, dayNumber, yearAt, monthAt, dateA
 
 -- the calendar cycle without weekday, in seconds
 abbrev pub cycle : ℕ
-cycle = 86400 * calendarDays
+cycle = 86_400 * calendarDays
 
 -- the longest time that is moved on at once, in seconds: 366 days ("Refusal numbers", 10)
 abbrev pub LIMIT : ℕ
@@ -19,7 +19,7 @@ fullYear c = 100 * c .century + c .year
 
 -- the second of the day
 abbrev pub timeOf : Clock → ℕ
-timeOf c = 3600 * c .hour + 60 * c .minute + c .second
+timeOf c = 3_600 * c .hour + 60 * c .minute + c .second
 
 -- a calendar that exists, with a weekday from 1 to 7
 pub record Valid (c : Clock) : Type 0 where
@@ -37,18 +37,18 @@ days c = dayNumber (fullYear c) (c .month) (c .date)
 
 -- a calendar's count of seconds
 unfoldable pub count : Clock → ℕ
-count c = 86400 * days c + timeOf c
+count c = 86_400 * days c + timeOf c
 
 -- the calendar at the count k, with the weekday w
 unfoldable pub clockAt : ℕ → ℕ → Clock
 clockAt k w =
     record {
-      century = yearAt (k / 86400) / 100;
-      year = yearAt (k / 86400) % 100;
-      month = monthAt (k / 86400);
-      date = dateAt (k / 86400);
+      century = yearAt (k / 86_400) / 100;
+      year = yearAt (k / 86_400) % 100;
+      month = monthAt (k / 86_400);
+      date = dateAt (k / 86_400);
       weekday = w;
-      hour = k / 3600 % 24;
+      hour = k / 3_600 % 24;
       minute = k / 60 % 60;
       second = k % 60;
     }
@@ -56,11 +56,11 @@ clockAt k w =
 -- how many of the counts k + 1 to k + n are multiples of 86,400: the midnights passed, as the paper counts them
 unfoldable pub multiples : ℕ → ℕ → ℕ
 multiples k zero = 0
-multiples k (suc n) = multiples k n + cond (eqb ((k + suc n) % 86400) 0) 1 0
+multiples k (suc n) = multiples k n + cond (eqb ((k + suc n) % 86_400) 0) 1 0
 
 -- the same as a difference of quotients, which computes at once; the law `midnights-counted` says that they are equal
 abbrev pub midnights : ℕ → ℕ → ℕ
-midnights k n = (k + n) / 86400 - k / 86400
+midnights k n = (k + n) / 86_400 - k / 86_400
 
 -- the weekday w moved on m days, 1 to 7
 abbrev pub weekdayOn : ℕ → ℕ → ℕ

@@ -26,7 +26,7 @@ yearsBefore y = sums yearLength y
 
 -- the days of the whole calendar, four centuries
 abbrev pub calendarDays : ℕ
-calendarDays = 146100
+calendarDays = 146_100
 
 -- days from 1 January of century 0, year 00, to the date d of month m of year y
 unfoldable pub dayNumber : ℕ → ℕ → ℕ → ℕ

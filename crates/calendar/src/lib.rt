@@ -115,14 +115,14 @@ pub fn time_of(c: Clock) -> u32
     requires { ⌜ Valid c ⌝ }
     ensures { λ r. ⌜ r ≡ timeOf c ⌝ }
 {
-    3600 * c.hour + 60 * c.minute + c.second
+    3_600 * c.hour + 60 * c.minute + c.second
 }
 
 // The same day, at the second t of the day.
 pub fn at_time(mut c: Clock, t: u32) -> Clock
     ensures { λ r. ⌜ r ≡ atTime c t ⌝ }
 {
-    c.hour = t / 3600;
+    c.hour = t / 3_600;
     c.minute = t / 60 % 60;
     c.second = t % 60;
     c
@@ -135,11 +135,11 @@ pub fn move_on(c: Clock, n: Seconds) -> Clock
     ensures { λ r. ⌜ r ≡ moved c (n .0) ⌝ }
 {
     let end = time_of(c) + n.0;
-    let mut left = end / 86400;
+    let mut left = end / 86_400;
     let mut day = at_time(c, 0);
     while left > 0 {
         day = next_day(day);
         left -= 1;
     }
-    at_time(day, end % 86400)
+    at_time(day, end % 86_400)
 }

@@ -13,7 +13,7 @@ pub fn bit(x: u8, weight: u8) -> bool
     x / weight % 2 == 1
 }
 
-// A bit's weight where it is set, else 0.
+// The byte w, a bit's weight or a digit's segments, where it is on, else 0.
 pub fn weight(on: bool, w: u8) -> u8
     ensures value { λ r. ⌜ r ≡ cond on w 0 ⌝ }
     ensures bound { λ r. ⌜ r ≤ w ⌝ }

@@ -9,7 +9,7 @@ use Rattle.controller.specs.Standby.{raised}
 
 -- the keys of a that b lacks
 abbrev pub without : ℕ → ℕ → ℕ
-without a b = bitAnd a (4294967295 - b)
+without a b = bitAnd a (4_294_967_295 - b)
 
 -- the new presses that count: with STBY low all of them, with STBY high the hot ones, by the mask or all with b1
 abbrev pub counted : Core → ℕ → ℕ

@@ -25,7 +25,7 @@ leap-23 = leap-counted 23
 
 -- the count of seconds of a calendar in January
 abbrev pub januaryCount : Clock → ℕ
-januaryCount c = 86400 * (daysBefore (fullYear c) + (c .date - 1)) + timeOf c
+januaryCount c = 86_400 * (daysBefore (fullYear c) + (c .date - 1)) + timeOf c
 
 count-is : (c : Clock) → c .month ≡ 1 → count c ≡ januaryCount c
 unfolding count days

@@ -5,7 +5,7 @@ use mathlib.Core.Bool.{Bool, true, false, not, _||_}
 use mathlib.Core.Logic.{⊎-elim}
 use mathlib.Core.List.{List, [], _∷_}
 use native.Mathlib.Omega.{arith}
-use borrow.Author.Tests.{eqb-true, eq-eqb, le-leb, lt-leb, leb-true}
+use borrow.Author.Tests.{eqb-true, not-true, eq-eqb, le-leb, lt-leb, leb-true}
 use lib.Dec.{eqb, leb}
 use lib.ListN.{getD}
 use Rattle.common.specs.Tests.{conj}
@@ -41,17 +41,13 @@ daily a = conj (dailyTests a)
 
 -- its second of the day
 abbrev pub dailySecond : Alarm → ℕ
-dailySecond a = 3600 * a .hour .value + 60 * a .minute .value + a .second .value
+dailySecond a = 3_600 * a .hour .value + 60 * a .minute .value + a .second .value
 
 -- the seconds from a clock to its next match
 abbrev pub secondsTo : Alarm → Clock → ℕ
-secondsTo a c = (86399 + dailySecond a - timeOf c % 86400) % 86400 + 1
+secondsTo a c = (86_399 + dailySecond a - timeOf c % 86_400) % 86_400 + 1
 
 -- ---- fields
-not-true : (b : Bool) → not b ≡ true → b ≡ false
-not-true true e = sym e
-not-true false e = refl
-
 any-fits : (f : Field) (x : ℕ) → f .any ≡ true → fits f x ≡ true
 unfolding fits
 any-fits f x e = ap (λ (b : Bool). b || eqb (f .value) x) e

@@ -46,7 +46,7 @@ module _ (from to : ℕ) (line text : List ℕ) (e : text ≡ part from to line)
       unfolding numberOf
       number-by = ap (numberBy decimal) as-read
 
-      pub number-unread : (not (s .readable) || ltb 5 (s .at)) ≡ true → 4294967296 ≡ numberOf from to decimal line
+      pub number-unread : (not (s .readable) || ltb 5 (s .at)) ≡ true → 4_294_967_296 ≡ numberOf from to decimal line
       number-unread h = on-true _ _ h ∙ number-by
 
       module _ (h : (not (s .readable) || ltb 5 (s .at)) ≡ false) where

@@ -30,7 +30,7 @@ unfoldable pub endOf : ℕ → ℕ → List ℕ → ℕ
 endOf from to line = endBy (partRead from to line)
 
 abbrev pub numberBy : Bool → Reading → ℕ
-numberBy decimal s = cond (not (s .readable) || ltb 5 (s .at)) 4294967296 (cond decimal (s .decimal) (s .number))
+numberBy decimal s = cond (not (s .readable) || ltb 5 (s .at)) 4_294_967_296 (cond decimal (s .decimal) (s .number))
 
 -- the number that a part of at most five bytes makes; else more than 32 bits hold
 unfoldable pub numberOf : ℕ → ℕ → Bool → List ℕ → ℕ

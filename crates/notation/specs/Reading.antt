@@ -26,7 +26,7 @@ start = reading 0 0 0 16 false true
 abbrev pub pairRead : Reading → ℕ → Reading
 pairRead s value =
     cond (s .place) (reading (twoDigits value) (s .number) (s .decimal) 16 false (s .readable))
-    (reading (s .at % 256 + 1) (s .number % 4294967296 * 256 + value) (s .decimal % 4294967296 * 100 + twoDigits value) 16 (s .place)
+    (reading (s .at % 256 + 1) (s .number % 4_294_967_296 * 256 + value) (s .decimal % 4_294_967_296 * 100 + twoDigits value) 16 (s .place)
     (s .readable))
 
 abbrev pub digitRead : Reading → ℕ → Reading

@@ -115,7 +115,7 @@ unfolding sampled
 sound-sampled {w} {c} h sample hs =
     of-cond (Sound w) (eqb sample (c .keys .sample)) _ _
     (λ e. sound-pressed (sound-keys h _ (record { mask = h .keys .mask; sample = hs; accepted = hs; store = h .keys .store })) (without sample (c .keys .accepted))
-    (lt-of-le-of-lt (and-le-l sample (4294967295 - c .keys .accepted)) hs))
+    (lt-of-le-of-lt (and-le-l sample (4_294_967_295 - c .keys .accepted)) hs))
     (λ e. sound-keys h _ (record { mask = h .keys .mask; sample = hs; accepted = h .keys .accepted; store = h .keys .store }))
 
 -- ---- Remote and pins

@@ -10,7 +10,7 @@ use Rattle.remote.specs.Frame.{complements, necKey, rc5Key, sentBy, keyO
 
 -- NEC, first byte lowest
 abbrev pub necFrame : ℕ → ℕ → ℕ → ℕ → ℕ
-necFrame a b c d = a + 256 * b + 65536 * (c + 256 * d)
+necFrame a b c d = a + 256 * b + 65_536 * (c + 256 * d)
 
 -- RC-5 with its start bits
 abbrev pub rc5Frame : ℕ → ℕ → ℕ → ℕ
@@ -24,20 +24,20 @@ high x y h = let e : (x + 256 * y) / 256 ≡ y = omega arith in let d : y % 256 
 
 -- the four bytes of two words
 module _ (a b m : ℕ) (h : a + b ≡ 255) where
-  first-byte : (a + 256 * b + 65536 * m) % 256 ≡ a
+  first-byte : (a + 256 * b + 65_536 * m) % 256 ≡ a
   first-byte = omega arith
 
-  second-byte : (a + 256 * b + 65536 * m) / 256 % 256 ≡ b
+  second-byte : (a + 256 * b + 65_536 * m) / 256 % 256 ≡ b
   second-byte =
-      let e : (a + 256 * b + 65536 * m) / 256 ≡ b + 256 * m = omega arith in
+      let e : (a + 256 * b + 65_536 * m) / 256 ≡ b + 256 * m = omega arith in
       let d : (b + 256 * m) % 256 ≡ b = omega arith in
       ap (λ (x : ℕ). x % 256) e ∙ d
 
-  third-byte : (a + 256 * b + 65536 * m) / 65536 % 256 ≡ m % 256
-  third-byte = let e : (a + 256 * b + 65536 * m) / 65536 ≡ m = omega arith in ap (λ (x : ℕ). x % 256) e
+  third-byte : (a + 256 * b + 65_536 * m) / 65_536 % 256 ≡ m % 256
+  third-byte = let e : (a + 256 * b + 65_536 * m) / 65_536 ≡ m = omega arith in ap (λ (x : ℕ). x % 256) e
 
-  fourth-byte : (a + 256 * b + 65536 * m) / 16777216 % 256 ≡ m / 256 % 256
-  fourth-byte = let e : (a + 256 * b + 65536 * m) / 16777216 ≡ m / 256 = omega arith in ap (λ (x : ℕ). x % 256) e
+  fourth-byte : (a + 256 * b + 65_536 * m) / 16_777_216 % 256 ≡ m / 256 % 256
+  fourth-byte = let e : (a + 256 * b + 65_536 * m) / 16_777_216 ≡ m / 256 = omega arith in ap (λ (x : ℕ). x % 256) e
 
 pub nec-frame : (a b c d : ℕ) → a + b ≡ 255 → c + d ≡ 255 → necKey (necFrame a b c d) ≡ Key a c
 unfolding necKey

@@ -21,8 +21,8 @@ tested-bytes false a c h k = tt
 nec-bytes : (f : ℕ) → Bytes (necKey f)
 unfolding necKey
 nec-bytes f =
-    tested-bytes (complements (f % 256) (f / 256 % 256) && complements (f / 65536 % 256) (f / 16777216 % 256)) (f % 256)
-    (f / 65536 % 256) (omega arith) (omega arith)
+    tested-bytes (complements (f % 256) (f / 256 % 256) && complements (f / 65_536 % 256) (f / 16_777_216 % 256)) (f % 256)
+    (f / 65_536 % 256) (omega arith) (omega arith)
 
 rc5-bytes : (f : ℕ) → Bytes (rc5Key f)
 unfolding rc5Key

@@ -22,8 +22,8 @@ complements b c = eqb (b + c) 255
 -- NEC: address, its complement, command, its complement, the first byte received lowest
 unfoldable pub necKey : ℕ → Received
 necKey f =
-    cond (complements (f % 256) (f / 256 % 256) && complements (f / 65536 % 256) (f / 16777216 % 256))
-    (Key (f % 256) (f / 65536 % 256)) NoKey
+    cond (complements (f % 256) (f / 256 % 256) && complements (f / 65_536 % 256) (f / 16_777_216 % 256))
+    (Key (f % 256) (f / 65_536 % 256)) NoKey
 
 -- RC-5: from bit 13 down two start bits 1, toggle, 5 bits of address, 6 of command; above bit 13 all 0
 unfoldable pub rc5Key : ℕ → Received

@@ -26,8 +26,8 @@ fn nec_key(frame: u32) -> Received
     ensures { λ r. ⌜ r ≡ necKey frame ⌝ }
 {
     let address = frame % 256;
-    let command = frame / 65536 % 256;
-    if (address + frame / 256 % 256 == 255) & (command + frame / 16777216 % 256 == 255) {
+    let command = frame / 65_536 % 256;
+    if (address + frame / 256 % 256 == 255) & (command + frame / 16_777_216 % 256 == 255) {
         return Received::Key(address as u8, command as u8);
     }
     Received::NoKey

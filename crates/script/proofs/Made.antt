@@ -64,11 +64,11 @@ module _ (word n : ℕ) (line l : List ℕ) (e : n ≡ numberOf 32 62 (eqb word 
   unfolding eventRead
   event-by = ap (λ (k : ℕ). eventBy word k l) e
 
-  pub event-none : 4294967295 < n → outcome 99 l [] ≡ eventRead word line l
-  event-none h = on-true _ _ (lt-ltb 4294967295 n h) ∙ event-by
+  pub event-none : 4_294_967_295 < n → outcome 99 l [] ≡ eventRead word line l
+  event-none h = on-true _ _ (lt-ltb 4_294_967_295 n h) ∙ event-by
 
-  pub event-done : n ≤ 4294967295 → {x : Outcome} → x ≡ eventMade word (n % 4294967296) l → x ≡ eventRead word line l
-  event-done h f = past _ _ (le-ltb 4294967295 n h) f ∙ event-by
+  pub event-done : n ≤ 4_294_967_295 → {x : Outcome} → x ≡ eventMade word (n % 4_294_967_296) l → x ≡ eventRead word line l
+  event-done h f = past _ _ (le-ltb 4_294_967_295 n h) f ∙ event-by
 
 -- a word that is none of the events
 module _ (word n : ℕ) (l : List ℕ) where

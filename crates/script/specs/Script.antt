@@ -34,13 +34,13 @@ commandMade line l o = commandFrom (endOf 32 62 line) (argumentsIn line) l o
 unfoldable pub eventMade : ℕ → ℕ → List ℕ → Outcome
 eventMade word n l =
     cond (eqb word 102) (frameCall l n)
-    (cond (eqb word 107) (sampleCall l (n % 65536))
+    (cond (eqb word 107) (sampleCall l (n % 65_536))
     (cond (eqb word 111) (supplyReturnCall l n)
     (cond (eqb word 112) (powerUpCall l)
     (cond (eqb word 114) (readyCall l n) (cond (eqb word 116) (ticksMade n l) (cond (eqb word 119) (wakeUpCall l n) (noCall l [])))))))
 
 abbrev pub eventBy : ℕ → ℕ → List ℕ → Outcome
-eventBy word n l = cond (ltb 4294967295 n) (noCall l []) (eventMade word (n % 4294967296) l)
+eventBy word n l = cond (ltb 4_294_967_295 n) (noCall l []) (eventMade word (n % 4_294_967_296) l)
 
 -- an event with the number that its arguments write, of ticks (t) and of an outage (o) in decimal
 unfoldable pub eventRead : ℕ → List ℕ → List ℕ → Outcome

@@ -10,8 +10,8 @@ use Rattle.alarm.specs.Skip.{candidateAfter}
 use Rattle.alarm.proofs.candidate_after.Statement.{statement}
 use Rattle.alarm.proofs.candidate_after.Tie as tie
 
-module _ (a : Alarm) (u : ℕ) (h : Bool) (e : h ≡ fits (a .hour) (u / 3600)) where
-  next-hour : not h ≡ true → (u / 3600 + 1) * 3600 ≡ candidateAfter a u
+module _ (a : Alarm) (u : ℕ) (h : Bool) (e : h ≡ fits (a .hour) (u / 3_600)) where
+  next-hour : not h ≡ true → (u / 3_600 + 1) * 3_600 ≡ candidateAfter a u
   unfolding candidateAfter
   next-hour x = rw (sym e ∙ not-true h x)
 

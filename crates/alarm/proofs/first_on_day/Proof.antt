@@ -15,17 +15,17 @@ use Rattle.alarm.proofs.Match.{day-not, day-fit}
 use Rattle.alarm.proofs.first_on_day.Statement.{statement}
 use Rattle.alarm.proofs.first_on_day.Tie as tie
 
-module _ (a : Alarm) (c : Clock) (t : ℕ) (l : t ≤ 86400) (b : Bool) (e : b ≡ dayFits a c) where
-  no-day : not b ≡ true → 86400 ≡ firstFrom (λ u. matches a (atTime c u)) t (86400 - t)
+module _ (a : Alarm) (c : Clock) (t : ℕ) (l : t ≤ 86_400) (b : Bool) (e : b ≡ dayFits a c) where
+  no-day : not b ≡ true → 86_400 ≡ firstFrom (λ u. matches a (atTime c u)) t (86_400 - t)
   no-day x =
-      first-is (λ u. matches a (atTime c u)) t (86400 - t) 86400
+      first-is (λ u. matches a (atTime c u)) t (86_400 - t) 86_400
       (record { low = l; high = omega arith; none = λ u i j. day-not a c u (sym e ∙ not-true b x); found = λ h. absurd (omega arith) })
 
-  the-day : (r : ℕ) → not b ≡ false → r ≡ firstFrom (timeFits a) t (86400 - t) → r ≡ firstFrom (λ u. matches a (atTime c u)) t (86400 - t)
+  the-day : (r : ℕ) → not b ≡ false → r ≡ firstFrom (timeFits a) t (86_400 - t) → r ≡ firstFrom (λ u. matches a (atTime c u)) t (86_400 - t)
   the-day r x f =
-      let g = as-first (timeFits a) t (86400 - t) r f in
+      let g = as-first (timeFits a) t (86_400 - t) r f in
       let y = sym e ∙ not-false b x in
-      first-is (λ u. matches a (atTime c u)) t (86400 - t) r
+      first-is (λ u. matches a (atTime c u)) t (86_400 - t) r
       (record { low = g .low; high = g .high; none = λ u i j. day-fit a c u y ∙ g .none u i j; found = λ h. day-fit a c r y ∙ g .found h })
 
 day-fits-requires : tie.Need-day-fits-requires

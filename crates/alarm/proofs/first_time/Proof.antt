@@ -15,16 +15,16 @@ use Rattle.alarm.proofs.first_time.Tie as tie
 -- the seconds from t up to u do not fit
 record Searched (a : Alarm) (t u : ℕ) : Type 0 where
   low : t ≤ u
-  high : u ≤ t + (86400 - t)
+  high : u ≤ t + (86_400 - t)
   none : (w : ℕ) → t ≤ w → w < u → timeFits a w ≡ false
 
 module _ (a : Alarm) (t u : ℕ) (s : Searched a t u) where
-  found : (u < 86400 → timeFits a u ≡ true) → u ≡ firstFrom (timeFits a) t (86400 - t)
+  found : (u < 86_400 → timeFits a u ≡ true) → u ≡ firstFrom (timeFits a) t (86_400 - t)
   found f =
-      first-is (timeFits a) t (86400 - t) u
+      first-is (timeFits a) t (86_400 - t) u
       (record { low = s .low; high = s .high; none = s .none; found = λ h. f (omega (arith, s .low, s .high)) })
 
-  module _ (r : ℕ) (e : r ≡ candidateAfter a u) (l : u < 86400) where
+  module _ (r : ℕ) (e : r ≡ candidateAfter a u) (l : u < 86_400) where
     later : u < r
     later = omega (arith, candidate-range a u l .0)
 
@@ -40,7 +40,7 @@ abbrev Inv-loop : tie.InvT-loop
 Inv-loop a t u₀ u = Searched a t u
 
 abbrev μ-loop : tie.MeasureT-loop
-μ-loop a t u₀ u = 86400 - u
+μ-loop a t u₀ u = 86_400 - u
 
 loop-holds : tie.Need-loop-holds Inv-loop μ-loop
 loop-holds c = record { low = omega arith; high = omega arith; none = λ w l h. absurd (omega arith) }

@@ -20,9 +20,9 @@ use Rattle.alarm.proofs.walk_days.Tie as tie
 record Walked (a : Alarm) (start end : ℕ) (m d : Clock) (base t : ℕ) : Type 0 where
   day-is : d ≡ moved m base
   midnight : timeOf d ≡ 0
-  t-high : t ≤ 86400
+  t-high : t ≤ 86_400
   t-low : start < base + t
-  base-high : base ≤ end + 86400
+  base-high : base ≤ end + 86_400
   none : (x : ℕ) → start < x → x < base + t → matches a (moved m x) ≡ false
 
 begin : (a : Alarm) (c m : Clock) (start n : ℕ) → Valid c → m ≡ atTime c 0 → start ≡ timeOf c → Walked a start (start + n) m m 0 (start + 1)
@@ -41,18 +41,18 @@ module _ (a : Alarm) (c m : Clock) (start n : ℕ) (v : Valid c) (em : m ≡ atT
   over : start + n < base + t → n + 1 ≡ firstReached (matches a) c n
   over h = reached-is (matches a) c m start n (n + 1) v em es (omega arith) (omega arith) (λ x p q. w .none x p (omega arith)) (λ p. absurd (omega arith))
 
-  module _ (u : ℕ) (e : u ≡ firstFrom (λ x. matches a (atTime d x)) t (86400 - t)) where
-    f : IsFirst (λ x. matches a (atTime d x)) t (86400 - t) u
-    f = as-first (λ x. matches a (atTime d x)) t (86400 - t) u e
+  module _ (u : ℕ) (e : u ≡ firstFrom (λ x. matches a (atTime d x)) t (86_400 - t)) where
+    f : IsFirst (λ x. matches a (atTime d x)) t (86_400 - t) u
+    f = as-first (λ x. matches a (atTime d x)) t (86_400 - t) u e
 
-    high : u ≤ 86400
+    high : u ≤ 86_400
     high = omega (arith, f .high, w .t-high)
 
     none-to : (x : ℕ) → start < x → x < base + u → matches a (moved m x) ≡ false
     none-to = further (matches a) m d start base t u (w .day-is) (w .midnight) high (w .none) (f .none)
 
     -- a match on the day, which may lie past the end
-    found : u < 86400 → (r : ℕ) → r ≡ min (base + u - start) (n + 1) → r ≡ firstReached (matches a) c n
+    found : u < 86_400 → (r : ℕ) → r ≡ min (base + u - start) (n + 1) → r ≡ firstReached (matches a) c n
     found h r k =
         reached-is (matches a) c m start n r v em es (omega (arith, w .t-low, f .low)) (omega arith)
         (λ x p q. none-to x p (omega (arith, w .t-low, f .low)))
@@ -61,7 +61,7 @@ module _ (a : Alarm) (c m : Clock) (start n : ℕ) (v : Valid c) (em : m ≡ atT
         ap (λ (y : ℕ). matches a (moved m y)) j ∙ on-day (matches a) m d base u (w .day-is) (w .midnight) h ∙ f .found (omega (arith, w .t-high)))
 
     -- none on the day
-    on : (r : Clock) → base + t ≤ start + n → 86400 ≤ u → r ≡ nextDay d → Walked a start (start + n) m r (base + 86400) 0
+    on : (r : Clock) → base + t ≤ start + n → 86_400 ≤ u → r ≡ nextDay d → Walked a start (start + n) m r (base + 86_400) 0
     on r l h k =
         record {
           day-is = next-on m d r base (w .day-is) (w .midnight) k .0;

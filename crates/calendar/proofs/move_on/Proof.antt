@@ -11,27 +11,27 @@ use Rattle.calendar.proofs.move_on.Statement.{statement}
 use Rattle.calendar.proofs.move_on.Tie as tie
 
 abbrev Inv-loop : tie.InvT-loop
-Inv-loop end left₀ day₀ left day = (left ≤ left₀) × (day ≡ moved day₀ (86400 * (left₀ - left)))
+Inv-loop end left₀ day₀ left day = (left ≤ left₀) × (day ≡ moved day₀ (86_400 * (left₀ - left)))
 
 abbrev μ-loop : tie.MeasureT-loop
 μ-loop end left₀ day₀ left day = left
 
-begin : (c m : Clock) (q : ℕ) → Valid c → m ≡ atTime c 0 → m ≡ moved m (86400 * (q - q))
+begin : (c m : Clock) (q : ℕ) → Valid c → m ≡ atTime c 0 → m ≡ moved m (86_400 * (q - q))
 begin c m q v e =
-    let z : 86400 * (q - q) ≡ 0 = omega arith in
+    let z : 86_400 * (q - q) ≡ 0 = omega arith in
     sym (ap (moved m) z ∙ moved-none m (subst Valid (sym e) (time-valid c 0 v (omega arith))))
 
-turn : (m d r : Clock) (q left : ℕ) → 1 ≤ left → left ≤ q → d ≡ moved m (86400 * (q - left)) → r ≡ nextDay d → r ≡ moved m (86400 * (q - (left - 1)))
+turn : (m d r : Clock) (q left : ℕ) → 1 ≤ left → left ≤ q → d ≡ moved m (86_400 * (q - left)) → r ≡ nextDay d → r ≡ moved m (86_400 * (q - (left - 1)))
 turn m d r q left l h e f =
-    let k : 86400 * (q - left) + 86400 ≡ 86400 * (q - (left - 1)) = omega arith in
-    f ∙ ap nextDay e ∙ next-day-moved (moved m (86400 * (q - left))) (moved-valid m (86400 * (q - left))) ∙ moved-moved m (86400 * (q - left)) 86400 ∙ ap (moved m) k
+    let k : 86_400 * (q - left) + 86_400 ≡ 86_400 * (q - (left - 1)) = omega arith in
+    f ∙ ap nextDay e ∙ next-day-moved (moved m (86_400 * (q - left))) (moved-valid m (86_400 * (q - left))) ∙ moved-moved m (86_400 * (q - left)) 86_400 ∙ ap (moved m) k
 
-finish : (c m d r : Clock) (n t left : ℕ) → Valid c → t ≡ timeOf c → m ≡ atTime c 0 → left ≤ 0 → d ≡ moved m (86400 * ((t + n) / 86400 - left)) → r ≡ atTime d ((t + n) % 86400) → r ≡ moved c n
+finish : (c m d r : Clock) (n t left : ℕ) → Valid c → t ≡ timeOf c → m ≡ atTime c 0 → left ≤ 0 → d ≡ moved m (86_400 * ((t + n) / 86_400 - left)) → r ≡ atTime d ((t + n) % 86_400) → r ≡ moved c n
 finish c m d r n t left v et em z e f =
-    let k : 86400 * ((t + n) / 86400 - left) ≡ 86400 * ((t + n) / 86400) = omega arith in
-    let j : 86400 * ((t + n) / 86400) + (t + n) % 86400 ≡ timeOf c + n = omega arith in
-    f ∙ ap (λ (x : Clock). atTime x ((t + n) % 86400)) (e ∙ ap (moved m) k)
-    ∙ whole-days m ((t + n) / 86400) ((t + n) % 86400) (ap timeOf em) (omega arith)
+    let k : 86_400 * ((t + n) / 86_400 - left) ≡ 86_400 * ((t + n) / 86_400) = omega arith in
+    let j : 86_400 * ((t + n) / 86_400) + (t + n) % 86_400 ≡ timeOf c + n = omega arith in
+    f ∙ ap (λ (x : Clock). atTime x ((t + n) % 86_400)) (e ∙ ap (moved m) k)
+    ∙ whole-days m ((t + n) / 86_400) ((t + n) % 86_400) (ap timeOf em) (omega arith)
     ∙ ap (moved m) j ∙ ap (λ (x : Clock). moved x (timeOf c + n)) em ∙ sym (from-midnight c n v)
 
 time-of-requires : tie.Need-time-of-requires Inv-loop μ-loop
