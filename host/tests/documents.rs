@@ -119,11 +119,13 @@ fn the_documents_count_what_is_there() {
     let host = below(&top().join("host/src"), ".rs") + &below(&top().join("host/tests"), ".rs");
     let tests = host.lines().filter(|line| line.trim() == "#[test]").count();
     let faults = Fault::ALL.len();
+    let steps = read(".ci/run").lines().filter(|line| line.trim_start().starts_with("step \"")).count();
     let worst = read("docs/FIGURES.md");
     let worst = worst.split("The worst call needs ").nth(1).and_then(|rest| rest.split(' ').next()).unwrap();
     let counted = [
         ("README.md", format!("| {examples} worked examples")),
         ("README.md", format!("the calls of {examples} examples")),
+        ("README.md", format!("`ls crates/*/must-fail/*.edit | wc -l` and {steps} ")),
         ("README.md", format!("| {tests} tests of `host/`")),
         ("README.md", format!("| {faults} plausible wrong readings")),
         ("README.md", format!(" {worst} bytes for the worst call")),
