@@ -1,6 +1,6 @@
 -- What fits and what does not: the fields of a day and of a time, hours and minutes passed over, impossible fields. Assumes nothing.
 use mathlib.Core.Path.{_≡_, refl, sym, ap, _∙_}
-use mathlib.Core.Bool.{Bool, true, false, _&&_, _||_, and-false, true≢false}
+use mathlib.Core.Bool.{Bool, true, false, _&&_, _||_, and-true, and-false, true≢false}
 use mathlib.Core.List.{[], _∷_}
 use Prim.Native.Nat.{ℕ, _+_, _*_, _/_, _%_, _≤_, _<_}
 use native.Mathlib.Omega.{arith}
@@ -33,11 +33,7 @@ module _ (a : Alarm) (c : Clock) (t : ℕ) where
   day-not e = match-split ∙ ap (λ (b : Bool). timeFits a t && b) e ∙ and-false (timeFits a t)
 
   pub day-fit : dayFits a c ≡ true → matches a (atTime c t) ≡ timeFits a t
-  day-fit e = match-split ∙ ap (λ (b : Bool). timeFits a t && b) e ∙ keep (timeFits a t)
-    where
-      keep : (b : Bool) → (b && true) ≡ b
-      keep true = refl
-      keep false = refl
+  day-fit e = match-split ∙ ap (λ (b : Bool). timeFits a t && b) e ∙ and-true (timeFits a t)
 
 -- ---- hours, minutes and seconds that do not fit
 last-not : (s m h : Bool) → h ≡ false → ((s && m) && h) ≡ false

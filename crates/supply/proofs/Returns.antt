@@ -1,7 +1,7 @@
 -- One supply return after another is one after the sum; where the clock stands and when the alarm flag is up. Assumes nothing.
 use Prim.Native.Nat.{ℕ, _+_, _*_, _%_, _/_}
 use mathlib.Core.Path.{_≡_, refl, sym, ap, _∙_}
-use mathlib.Core.Bool.{Bool, true, false, cond, not, _&&_, _||_, or-true, or-false}
+use mathlib.Core.Bool.{Bool, true, false, cond, not, _&&_, _||_, or-true, or-false, and-or-distrib-left}
 use mathlib.Core.List.{List}
 use native.Mathlib.Omega.{arith}
 use lib.Bits.{bitOr, or-step, or-zero-r}
@@ -101,14 +101,10 @@ module _ (rs : List ℕ) (m n : ℕ) where
           (λ i. not (t i) && armed && any (m + n)) ∙ shut armed (any (m + n)) armed (any m) (AFE between && ABE between) (anyReached (matches (alarmOf between)) (clockOf between) n)
           ∙ (λ i. (not (sym t i) && armed && any m) || (not (sym (kept-stopped rs m ∙ t) i) && (AFE between && ABE between) && anyReached (matches (alarmOf between)) (clockOf between) n))
 
-      open-both : (a x y : Bool) → (a && (x || y)) ≡ ((a && x) || (a && y))
-      open-both true x y = refl
-      open-both false x y = refl
-
       moves : stopped rs ≡ false → matchCounts (m + n) rs ≡ (matchCounts m rs || matchCounts n between)
       moves t =
           (λ i. not (t i) && armed && any-add (matches (alarmOf rs)) (clockOf rs) m n i)
-          ∙ open-both armed (any m) later
+          ∙ and-or-distrib-left armed (any m) later
           ∙ (λ i. (not (sym t i) && armed && any m) || (not (sym (runs-on t) i) && sym (kept-bits rs m) i && anyReached (matches (sym (kept-alarm rs m) i)) (sym (clock-running rs m t) i) n))
 
 -- ---- the flags
