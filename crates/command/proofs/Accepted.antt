@@ -11,7 +11,8 @@ use Rattle.common.specs.Bits.{bitSet}
 use Rattle.common.specs.Grounds.{NoneHolds}
 use Rattle.common.proofs.Choice.{of-cond, and-left, neither-left, neither-right, not-other}
 use Rattle.command.specs.Codes.{WRITE-DIGITS, WRITE-REGISTERS, READ-KEYS, READ-REMOTE, READ-INTERRUPTS, READ-REGISTERS, SET-HOT-KEYS, STANDBY, configures, givesDigits, setsDisplay}
-use Rattle.command.specs.Refusals.{byte, bytesNeeded, roomNeeded, tooShort, outside, addressOut, isProtocol, protocolOut, digitsOut, groundsBy, grounds}
+use Rattle.remote.specs.Frame.{isProtocol}
+use Rattle.command.specs.Refusals.{byte, bytesNeeded, roomNeeded, tooShort, outside, addressOut, protocolOut, digitsOut, groundsBy, grounds}
 use Rattle.command.specs.Decode.{configurationBits, commandBy, commandOf}
 use Rattle.command.specs.Holds.{Configuration, Range, Holds}
 

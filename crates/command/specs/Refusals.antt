@@ -6,6 +6,7 @@ use mathlib.Core.List.{List, [], _∷_}
 use lib.Dec.{eqb, ltb}
 use lib.ListN.{length, getD}
 use Rattle.common.specs.Grounds.{Ground, ground}
+use Rattle.remote.specs.Frame.{isProtocol}
 use Rattle.command.specs.Codes.{WRITE-DIGITS, WRITE-REGISTERS, READ-KEYS, READ-REMOTE, READ-INTERRUPTS, READ-REGISTERS, SET-HOT-KEYS, configures, givesDigits, listed}
 
 -- the byte of a command at a place
@@ -40,9 +41,6 @@ addressOut c a =
     || eqb c READ-REGISTERS && outside 0x00 0x0F a
 
 -- ---- 7: protocol not 0, 2, 4
-
-abbrev pub isProtocol : ℕ → Bool
-isProtocol p = eqb p 0 || eqb p 2 || eqb p 4
 
 -- the protocol is in b6..b4 of the second byte
 abbrev pub protocolOut : ℕ → ℕ → Bool

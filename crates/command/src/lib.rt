@@ -143,8 +143,7 @@ fn is_address_out(c: u8, a: u8) -> bool
 fn is_protocol_out(c: u8, a: u8) -> bool
     ensures { λ r. ⌜ r ≡ protocolOut c a ⌝ }
 {
-    let p = a / 16 % 8;
-    configures(c) & !((p == 0) | (p == 2) | (p == 4))
+    configures(c) & !remote::is_protocol(a / 16 % 8)
 }
 
 // Whether the configuration gives other digits than 1 to 5.

@@ -4,16 +4,20 @@ use mathlib.Core.Bool.{cond}
 use lib.Bits.{bitAnd, bitOr}
 use lib.Dec.{eqb}
 use Rattle.controller.specs.declared.Core.{Core}
-use Rattle.controller.specs.State.{withKeys, keys, everyKeyHot, KEY}
+use Rattle.controller.specs.State.{withKeys, keys, allHot, KEY}
 use Rattle.controller.specs.Standby.{raised}
 
 -- the keys of a that b lacks
 abbrev pub without : ℕ → ℕ → ℕ
 without a b = bitAnd a (4_294_967_295 - b)
 
--- the new presses that count: with STBY low all of them, with STBY high the hot ones, by the mask or all with b1
+-- the hot ones of some new presses: those of the mask, or all with b1
+abbrev pub hot : Core → ℕ → ℕ
+hot c new = cond (allHot c) new (bitAnd new (c .keys .mask))
+
+-- the new presses that count: with STBY low all of them, with STBY high the hot ones
 abbrev pub counted : Core → ℕ → ℕ
-counted c new = cond (c .power .stby) (cond (everyKeyHot c) new (bitAnd new (c .keys .mask))) new
+counted c new = cond (c .power .stby) (hot c new) new
 
 -- presses that count join the store and, if any, are a key event
 abbrev pub joined : Core → ℕ → Core

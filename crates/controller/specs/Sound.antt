@@ -9,16 +9,13 @@ use Rattle.registers.specs.Names.{at, WATCHDOG}
 use Rattle.registers.specs.Written.{reservedClear}
 use Rattle.registers.specs.Watchdog.{watchdogLoad}
 use Rattle.timekeeper.specs.Clock.{validCalendar}
+use Rattle.remote.specs.Frame.{isProtocol}
 use Rattle.controller.specs.declared.Core.{Core}
 use Rattle.controller.specs.declared.Rtc.{Rtc}
 use Rattle.controller.specs.declared.Power.{Power}
 use Rattle.controller.specs.declared.Setup.{Setup}
 use Rattle.controller.specs.declared.Keys.{Keys}
 use Rattle.controller.specs.declared.Remote.{Remote}
-
--- the protocol is 0, 2 or 4
-abbrev pub knownProtocol : ℕ → Bool
-knownProtocol p = eqb p 0 || eqb p 2 || eqb p 4
 
 pub record SoundRtc (r : Rtc) : Type 0 where
   pub sized : length (r .registers) ≡ 16
@@ -32,7 +29,7 @@ pub record SoundRtc (r : Rtc) : Type 0 where
 pub record SoundSetup (s : Setup) : Type 0 where
   pub configuration : s .configuration < 64
   pub unnamed : s .configuration / 16 % 2 ≡ 0
-  pub protocol : knownProtocol (s .protocol) ≡ true
+  pub protocol : isProtocol (s .protocol) ≡ true
   pub value : s .guardvalue .0 < 16
 
 -- guard left is at most 16 times the guard value, and 0 while STBY is high

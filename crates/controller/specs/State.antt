@@ -50,11 +50,11 @@ sixteenths n = record { 0 = n }
 
 -- ---- configuration bits: b0 the guard's end begins standby, b1 every key is hot, b2 a remote key wakes, b5 WAKE_UP counts; b3 is the display's
 
-abbrev pub guardSleeps : Core → Bool
-guardSleeps c = bitSet (c .setup .configuration) 1
+abbrev pub guardStandby : Core → Bool
+guardStandby c = bitSet (c .setup .configuration) 1
 
-abbrev pub everyKeyHot : Core → Bool
-everyKeyHot c = bitSet (c .setup .configuration) 2
+abbrev pub allHot : Core → Bool
+allHot c = bitSet (c .setup .configuration) 2
 
 abbrev pub remoteWakes : Core → Bool
 remoteWakes c = bitSet (c .setup .configuration) 4

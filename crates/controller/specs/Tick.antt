@@ -11,7 +11,7 @@ use Rattle.timekeeper.specs.Clock.{clockOf, withClock}
 use Rattle.timekeeper.specs.Alarm.{alarmOf}
 use Rattle.units.specs.Units.{oneMore, fillsSecond}
 use Rattle.controller.specs.declared.Core.{Core}
-use Rattle.controller.specs.State.{withRtc, withPower, rtc, power, sixteenths, guardSleeps, RTC, ALARM-FLAG, WATCHDOG-FLAG}
+use Rattle.controller.specs.State.{withRtc, withPower, rtc, power, sixteenths, guardStandby, RTC, ALARM-FLAG, WATCHDOG-FLAG}
 use Rattle.controller.specs.Standby.{standbyBegun, raised}
 
 -- the second passes, and the clock stands at k: with AFE set a match raises the alarm flag and an RTC event
@@ -46,7 +46,7 @@ watchdogTicked c =
 unfoldable pub guardTicked : Core → Core
 guardTicked c =
     cond (eqb (c .power .guard .0) 0) c
-    (cond (eqb (c .power .guard .0) 1 && guardSleeps c) (standbyBegun c)
+    (cond (eqb (c .power .guard .0) 1 && guardStandby c) (standbyBegun c)
     (withPower c (power (c .power .ready) (c .power .wakeup) (c .power .stby) (sixteenths (c .power .guard .0 - 1)))))
 
 unfoldable pub ticked : Core → Core

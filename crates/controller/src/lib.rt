@@ -23,9 +23,9 @@ const WAKE_UP: u8 = 2;
 const RTC: u8 = 1;
 
 // Bits of the configuration: b0 the guard's end begins standby, b1 every key is hot, b2 a remote key wakes, b5 WAKE_UP counts.
-const GUARD_SLEEPS: u8 = 1;
+const GUARD_STANDBY: u8 = 1;
 
-const EVERY_KEY_HOT: u8 = 2;
+const ALL_HOT: u8 = 2;
 
 const REMOTE_WAKES: u8 = 4;
 

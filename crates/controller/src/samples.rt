@@ -1,8 +1,8 @@
 // Key samples.
 ghost use mathlib.Core.Path.{_≡_};
 ghost use Rattle.controller.specs.Keys.{counted, pressed, sampled};
+use crate::ALL_HOT;
 use crate::Core;
-use crate::EVERY_KEY_HOT;
 use crate::KEY;
 
 impl Core {
@@ -13,7 +13,7 @@ impl Core {
         if !self.power.stby {
             return new;
         }
-        if common::bit(self.setup.configuration, EVERY_KEY_HOT) {
+        if common::bit(self.setup.configuration, ALL_HOT) {
             return new;
         }
         new & self.keys.mask

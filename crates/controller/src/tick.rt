@@ -3,7 +3,7 @@ ghost use mathlib.Core.Path.{_≡_};
 ghost use Rattle.controller.specs.Tick.{secondPassed, clockTicked, watchdogTicked, guardTicked, ticked};
 use crate::ALARM_FLAG;
 use crate::Core;
-use crate::GUARD_SLEEPS;
+use crate::GUARD_STANDBY;
 use crate::RTC;
 use crate::WATCHDOG_FLAG;
 use units::Sixteenths;
@@ -20,7 +20,9 @@ impl Core {
         let moved = timekeeper::with_clock(registers, clock);
         rtc.registers = moved;
         rtc.sixteenths = none;
-        if registers::afe(registers) & alarm::match_second(timekeeper::alarm_of(registers), clock) {
+        if registers::has_afe(registers)
+            & alarm::match_second(timekeeper::alarm_of(registers), clock)
+        {
             rtc.flags = rtc.flags | ALARM_FLAG;
             self.rtc = rtc;
             return self.raise(RTC);
@@ -63,7 +65,7 @@ impl Core {
         }
         let fewer = Sixteenths(left - 1);
         rtc.watchdog = fewer;
-        if (left == 1) & registers::wdfen(registers) {
+        if (left == 1) & registers::has_wdfen(registers) {
             rtc.flags = rtc.flags | WATCHDOG_FLAG;
             self.rtc = rtc;
             return self.raise(RTC);
@@ -80,7 +82,7 @@ impl Core {
         if left == 0 {
             return self;
         }
-        if (left == 1) & common::bit(self.setup.configuration, GUARD_SLEEPS) {
+        if (left == 1) & common::bit(self.setup.configuration, GUARD_STANDBY) {
             return self.begin_standby();
         }
         let fewer = Sixteenths(left - 1);

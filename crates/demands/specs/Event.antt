@@ -21,7 +21,7 @@ use Rattle.image.specs.Image.{decoded, encoded}
 use Rattle.validity.specs.Valid.{isValid}
 use Rattle.events.specs.Show.{shownIn}
 use Rattle.stled325.specs.Outcome.{Outcome, decided}
-use Rattle.stled325.specs.Calls.{powerUpGrounds, eventGrounds, high, keyedBy, frameGrounds, supplyGrounds, viewGrounds, linesIn}
+use Rattle.stled325.specs.Calls.{powerUpGrounds, eventGrounds, high, keyedBy, frameGrounds, supplyGrounds, DIGITS-LEN, LINES-LEN, viewGrounds, linesIn}
 use Rattle.stled325.specs.Command.{commandGrounds}
 
 -- ---- Events
@@ -62,8 +62,8 @@ groundsOf (frame n) l o = frameGrounds l n
 groundsOf (ready level) l o = eventGrounds l
 groundsOf (wakeUp level) l o = eventGrounds l
 groundsOf (command s) l o = commandGrounds l s o
-groundsOf show l o = viewGrounds 5 l o
-groundsOf lines l o = viewGrounds 1 l o
+groundsOf show l o = viewGrounds DIGITS-LEN l o
+groundsOf lines l o = viewGrounds LINES-LEN l o
 groundsOf (supplyReturn n) l o = supplyGrounds l n
 
 -- the panel after it, where it is accepted

@@ -14,7 +14,7 @@ use Rattle.common.proofs.Choice.{on-true, on-false, of-cond, and-right}
 use Rattle.common.proofs.Order.{lt-or-le}
 use Rattle.display.specs.declared.Display.{Display}
 use Rattle.display.specs.Face.{faceOf}
-use Rattle.display.specs.Shown.{switchedOn, clockWanted, dark, clockShown, content, fiveDigits, shown}
+use Rattle.display.specs.Shown.{switchedOn, clockFace, dark, clockShown, content, fiveDigits, shown}
 use Rattle.display.proofs.Faces.{face-length}
 
 -- ---- Laws
@@ -39,7 +39,7 @@ module _ (rs : List ℕ) (configuration : ℕ) (stby : Bool) (d : Display) where
       of-cond Fits (dark configuration stby (d .control)) _ _ (λ e. omega arith)
       (λ e.
       of-cond Fits (clockShown configuration (d .digits)) _ _
-      (λ t. omega (arith, face-length rs, leb-true 4 (d .digits) (and-right (clockWanted configuration) (leb 4 (d .digits)) t)))
+      (λ t. omega (arith, face-length rs, leb-true 4 (d .digits) (and-right (clockFace configuration) (leb 4 (d .digits)) t)))
       (λ t. omega (arith, length-take (d .digits) (d .bytes))))
     where
       Fits : List ℕ → Type 0
@@ -71,7 +71,7 @@ in-use n l a b c d e ea eb ec ed ee =
 
 module _
     (rs : List ℕ) (configuration : ℕ) (stby : Bool) (d : Display) (on clock : Bool)
-    (eo : on ≡ switchedOn (d .control)) (ec : clock ≡ clockWanted configuration)
+    (eo : on ≡ switchedOn (d .control)) (ec : clock ≡ clockFace configuration)
   where
     tested : dark configuration stby (d .control) ≡ (not on || (stby && not clock))
     tested = λ i. not (sym eo i) || (stby && not (sym ec i))

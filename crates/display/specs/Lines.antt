@@ -11,6 +11,16 @@ mute ready = not ready
 abbrev pub irq : Bool → Bool → ℕ → Bool
 irq ready stby interrupt = not stby && ready && not (eqb interrupt 0)
 
+-- the bits of the byte, by their weights
+abbrev pub STBY : ℕ
+STBY = 1
+
+abbrev pub MUTE : ℕ
+MUTE = 2
+
+abbrev pub IRQ : ℕ
+IRQ = 4
+
 -- b0 STBY high, b1 MUTE high, b2 IRQ asserted, the rest 0
 unfoldable pub linesOf : Bool → Bool → ℕ → ℕ
-linesOf ready stby interrupt = cond stby 1 0 + cond (mute ready) 2 0 + cond (irq ready stby interrupt) 4 0
+linesOf ready stby interrupt = cond stby STBY 0 + cond (mute ready) MUTE 0 + cond (irq ready stby interrupt) IRQ 0

@@ -14,16 +14,16 @@ abbrev pub switchedOn : ℕ → Bool
 switchedOn control = bitSet control 16
 
 -- configuration b3: the clock face is wanted
-abbrev pub clockWanted : ℕ → Bool
-clockWanted configuration = bitSet configuration 8
+abbrev pub clockFace : ℕ → Bool
+clockFace configuration = bitSet configuration 8
 
 -- nothing is shown: the display is off, or in standby without b3
 abbrev pub dark : ℕ → Bool → ℕ → Bool
-dark configuration stby control = not (switchedOn control) || (stby && not (clockWanted configuration))
+dark configuration stby control = not (switchedOn control) || (stby && not (clockFace configuration))
 
 -- the face is shown: with b3 and 4 digits or more
 abbrev pub clockShown : ℕ → ℕ → Bool
-clockShown configuration digits = clockWanted configuration && leb 4 digits
+clockShown configuration digits = clockFace configuration && leb 4 digits
 
 -- what is shown from digit 1 on: nothing, the face, or the bytes of the digits in use
 unfoldable pub content : List ℕ → ℕ → Bool → Display → List ℕ

@@ -22,10 +22,10 @@ const M_MS: u8 = 64;
 const TWELVE_HOURS: u8 = 128;
 
 // Configuration b3, the clock face.
-const CLOCK: u8 = 8;
+const CLOCK_FACE: u8 = 8;
 
 // b4 of the display's control byte.
-const ON: u8 = 16;
+const DISPLAY_ON: u8 = 16;
 
 const FONT: [u8; 10] = [0x3F, 0x06, 0x5B, 0x4F, 0x66, 0x6D, 0x7D, 0x07, 0x7F, 0x6F];
 
@@ -152,8 +152,8 @@ fn in_use(n: u8, bytes: [u8; 5]) -> [u8; 5]
 pub fn show(registers: [u8; 16], configuration: u8, stby: bool, d: Display) -> [u8; 5]
     ensures { λ r. ⌜ r ≡ shown registers configuration stby d ⌝ }
 {
-    let on = common::bit(d.control, ON);
-    let clock = common::bit(configuration, CLOCK);
+    let on = common::bit(d.control, DISPLAY_ON);
+    let clock = common::bit(configuration, CLOCK_FACE);
     if !on | (stby & !clock) {
         return [0, 0, 0, 0, 0];
     }

@@ -2,10 +2,9 @@
 use Prim.Native.Nat.{ℕ}
 use mathlib.Core.List.{List, [], _∷_}
 use lib.ListN.{getD}
-use Rattle.registers.specs.Names.{SECONDS, ALARM-MONTH}
-use Rattle.registers.specs.Names as register
+use Rattle.registers.specs.Names.{SECONDS, WATCHDOG, ALARM-MONTH}
 use Rattle.panel.specs.PowerUp.{panelPoweredUp}
-use Rattle.image.specs.Layout.{SIXTEENTHS, FLAGS, INTERRUPT, PINS, PROTOCOL, GUARD, WATCHDOG, FRESH}
+use Rattle.image.specs.Layout.{SIXTEENTHS, FLAGS, INTERRUPT, PINS, SETUP, GUARD-LEFT, WATCHDOG-LEFT, REMOTE-FRESH}
 use Rattle.image.specs.Image.{encoded}
 use Rattle.edges.specs.Entry.{ticks, command, frame, supplyReturn, Entry, entry, replaced}
 
@@ -19,7 +18,7 @@ dated calendar = replaced SECONDS calendar start
 
 -- and the sixteenths and the guard left: 15 is one tick before the second
 abbrev pub timed : ℕ → ℕ → List ℕ → List ℕ
-timed sixteenths guard calendar = replaced SIXTEENTHS (sixteenths ∷ []) (replaced GUARD (guard ∷ []) (dated calendar))
+timed sixteenths guard calendar = replaced SIXTEENTHS (sixteenths ∷ []) (replaced GUARD-LEFT (guard ∷ []) (dated calendar))
 
 -- one tick from before the second b to the second a
 abbrev pub tickTo : ℕ → List ℕ → List ℕ → Entry
@@ -27,15 +26,15 @@ tickTo reading b a = entry reading (timed 15 160 b) (ticks 1) 0 (timed 0 159 a)
 
 -- register 09h and the watchdog left, low byte first
 abbrev pub watched : ℕ → ℕ → ℕ → List ℕ
-watched b low high = replaced register.WATCHDOG (b ∷ []) (replaced WATCHDOG (low ∷ high ∷ []) start)
+watched b low high = replaced WATCHDOG (b ∷ []) (replaced WATCHDOG-LEFT (low ∷ high ∷ []) start)
 
 -- protocol and guard value 10
 abbrev pub remote : ℕ → List ℕ
-remote b = replaced PROTOCOL (b ∷ []) start
+remote b = replaced SETUP (b ∷ []) start
 
 -- and a fresh command, with the interrupt of the remote
 abbrev pub keyed : ℕ → ℕ → List ℕ
-keyed b c = replaced FRESH (1 ∷ 0 ∷ c ∷ []) (replaced INTERRUPT (0x40 ∷ []) (remote b))
+keyed b c = replaced REMOTE-FRESH (1 ∷ 0 ∷ c ∷ []) (replaced INTERRUPT (0x40 ∷ []) (remote b))
 
 -- the calendar, flags and interrupt byte of a panel with the alarm of reading 13
 abbrev pub alarmed : List ℕ → ℕ → ℕ → List ℕ

@@ -4,7 +4,7 @@ use mathlib.Core.Bool.{Bool, cond, not, _&&_, _||_}
 use mathlib.Core.List.{List}
 use lib.Dec.{leb, ltb}
 use lib.ListN.{length}
-use Rattle.registers.specs.Names.{at, WATCHDOG}
+use Rattle.registers.specs.Names.{at, SECONDS, MINUTES, HOURS, WEEKDAY, DATE, MONTH, YEAR, WATCHDOG}
 use Rattle.registers.specs.Written.{written}
 use Rattle.registers.specs.Watchdog.{watchdogLoad}
 use Rattle.controller.specs.declared.Core.{Core}
@@ -18,7 +18,14 @@ touched a n x = leb a x && ltb (x - a) n
 
 -- one of them goes to a calendar register 01h..07h
 abbrev pub calendarTouched : ℕ → ℕ → Bool
-calendarTouched a n = touched a n 1 || touched a n 2 || touched a n 3 || touched a n 4 || touched a n 5 || touched a n 6 || touched a n 7
+calendarTouched a n =
+    touched a n SECONDS
+    || touched a n MINUTES
+    || touched a n HOURS
+    || touched a n WEEKDAY
+    || touched a n DATE
+    || touched a n MONTH
+    || touched a n YEAR
 
 -- 50h: the registers are written; touching the calendar zeroes the sixteenths, touching 09h reloads the watchdog
 abbrev pub registersSet : ℕ → ℕ → List ℕ → Core → Core

@@ -9,7 +9,14 @@ use command::Command;
 use controller::Core;
 use controller::Remote;
 use controller::Setup;
+use registers::DATE;
+use registers::HOURS;
+use registers::MINUTES;
+use registers::MONTH;
+use registers::SECONDS;
 use registers::WATCHDOG;
+use registers::WEEKDAY;
+use registers::YEAR;
 use units::Seconds;
 use units::Sixteenths;
 
@@ -33,13 +40,13 @@ pub fn touches(a: usize, n: usize, x: usize) -> bool
 fn touches_calendar(a: usize, n: usize) -> bool
     ensures { λ r. ⌜ r ≡ calendarTouched a n ⌝ }
 {
-    touches(a, n, 1)
-        | touches(a, n, 2)
-        | touches(a, n, 3)
-        | touches(a, n, 4)
-        | touches(a, n, 5)
-        | touches(a, n, 6)
-        | touches(a, n, 7)
+    touches(a, n, SECONDS)
+        | touches(a, n, MINUTES)
+        | touches(a, n, HOURS)
+        | touches(a, n, WEEKDAY)
+        | touches(a, n, DATE)
+        | touches(a, n, MONTH)
+        | touches(a, n, YEAR)
 }
 
 // A count that is replaced where its registers were touched.

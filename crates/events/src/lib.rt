@@ -10,6 +10,7 @@ ghost use Rattle.controller.specs.Remote.{keyed};
 ghost use Rattle.controller.specs.Pins.{readySet, wakeUpSet};
 ghost use Rattle.panel.specs.State.{onCore};
 ghost use Rattle.panel.specs.PowerUp.{panelPoweredUp};
+ghost use Rattle.image.specs.Layout.{IMAGE-LEN};
 ghost use Rattle.image.specs.Image.{decoded, encoded};
 ghost use Rattle.supply.specs.Return.{panelReturned};
 ghost use Rattle.events.specs.Serve.{numberLeft, imageLeft, outputLeft};
@@ -21,7 +22,7 @@ use units::Seconds;
 
 // The panel in an image of 64 bytes.
 fn panel_in(image: &[u8]) -> Panel
-    requires { ⌜ length (now image) ≡ 64 ⌝ }
+    requires { ⌜ length (now image) ≡ IMAGE-LEN ⌝ }
     ensures { λ r. ⌜ r ≡ decoded (now (image .entry)) ⌝ }
 {
     image::decode(image::load(image))
@@ -29,7 +30,7 @@ fn panel_in(image: &[u8]) -> Panel
 
 // Stores the panel as the image.
 fn store(image: &mut [u8], p: Panel)
-    requires { ⌜ length (now image) ≡ 64 ⌝ }
+    requires { ⌜ length (now image) ≡ IMAGE-LEN ⌝ }
     ensures { λ _. ⌜ now (image .exit) ≡ encoded p ⌝ }
 {
     image::save(image, image::encode(p));
@@ -37,7 +38,7 @@ fn store(image: &mut [u8], p: Panel)
 
 // The image at power-up.
 pub fn power_up(image: &mut [u8])
-    requires { ⌜ length (now image) ≡ 64 ⌝ }
+    requires { ⌜ length (now image) ≡ IMAGE-LEN ⌝ }
     ensures { λ _. ⌜ now (image .exit) ≡ encoded panelPoweredUp ⌝ }
 {
     store(image, Panel::power_up());
@@ -45,7 +46,7 @@ pub fn power_up(image: &mut [u8])
 
 // A tick, a sixteenth of a second.
 pub fn tick(image: &mut [u8])
-    requires { ⌜ length (now image) ≡ 64 ⌝ }
+    requires { ⌜ length (now image) ≡ IMAGE-LEN ⌝ }
     ensures { λ _. ⌜ now (image .exit) ≡ encoded (onCore ticked (decoded (now (image .entry)))) ⌝ }
 {
     let p = panel_in(image);
@@ -54,7 +55,7 @@ pub fn tick(image: &mut [u8])
 
 // A key sample.
 pub fn sample_keys(image: &mut [u8], sample: u32)
-    requires { ⌜ length (now image) ≡ 64 ⌝ }
+    requires { ⌜ length (now image) ≡ IMAGE-LEN ⌝ }
     ensures { λ _. ⌜ now (image .exit) ≡ encoded (onCore (λ c. sampled c sample) (decoded (now (image .entry)))) ⌝ }
 {
     let p = panel_in(image);
@@ -63,7 +64,7 @@ pub fn sample_keys(image: &mut [u8], sample: u32)
 
 // The READY pin takes a level.
 pub fn set_ready(image: &mut [u8], level: bool)
-    requires { ⌜ length (now image) ≡ 64 ⌝ }
+    requires { ⌜ length (now image) ≡ IMAGE-LEN ⌝ }
     ensures { λ _. ⌜ now (image .exit) ≡ encoded (onCore (λ c. readySet c level) (decoded (now (image .entry)))) ⌝ }
 {
     let p = panel_in(image);
@@ -72,7 +73,7 @@ pub fn set_ready(image: &mut [u8], level: bool)
 
 // The WAKE_UP pin takes a level.
 pub fn set_wake_up(image: &mut [u8], level: bool)
-    requires { ⌜ length (now image) ≡ 64 ⌝ }
+    requires { ⌜ length (now image) ≡ IMAGE-LEN ⌝ }
     ensures { λ _. ⌜ now (image .exit) ≡ encoded (onCore (λ c. wakeUpSet c level) (decoded (now (image .entry)))) ⌝ }
 {
     let p = panel_in(image);
@@ -81,7 +82,7 @@ pub fn set_wake_up(image: &mut [u8], level: bool)
 
 // A remote key.
 pub fn receive_key(image: &mut [u8], address: u8, command: u8)
-    requires { ⌜ length (now image) ≡ 64 ⌝ }
+    requires { ⌜ length (now image) ≡ IMAGE-LEN ⌝ }
     ensures { λ _. ⌜ now (image .exit) ≡ encoded (onCore (λ c. keyed c address command) (decoded (now (image .entry)))) ⌝ }
 {
     let p = panel_in(image);
@@ -90,7 +91,7 @@ pub fn receive_key(image: &mut [u8], address: u8, command: u8)
 
 // The supply is back after n seconds.
 pub fn return_supply(image: &mut [u8], n: Seconds)
-    requires { ⌜ length (now image) ≡ 64 ⌝ }
+    requires { ⌜ length (now image) ≡ IMAGE-LEN ⌝ }
     requires { ⌜ Valid (clockOf (decoded (now image) .core .rtc .registers)) ⌝ }
     requires { ⌜ n .0 ≤ LIMIT ⌝ }
     ensures { λ _. ⌜ now (image .exit) ≡ encoded (panelReturned (n .0) (decoded (now (image .entry)))) ⌝ }
@@ -125,7 +126,7 @@ pub fn interrupt(image: [u8; 64]) -> u8
 
 // Writes the five bytes of show.
 pub fn show(image: &[u8], digits: &mut [u8])
-    requires { ⌜ length (now image) ≡ 64 ⌝ }
+    requires { ⌜ length (now image) ≡ IMAGE-LEN ⌝ }
     requires { ⌜ length (now digits) ≡ 5 ⌝ }
     ensures { λ _. ⌜ now (digits .exit) ≡ shownIn (decoded (now (image .entry))) ⌝ }
 {
@@ -147,7 +148,7 @@ fn shown_by(p: Panel) -> [u8; 5]
 // Serves a command that passed grounds 1 to 8, whose bytes are s: the reply is of the panel as it was. A write that leaves no valid
 // calendar is 9.
 pub fn serve(image: &mut [u8], k: Command, s: &[u8], out: &mut [u8]) -> u32
-    requires { ⌜ length (now image) ≡ 64 ⌝ }
+    requires { ⌜ length (now image) ≡ IMAGE-LEN ⌝ }
     ensures { λ r. ⌜ r ≡ numberLeft (now (image .entry)) k (now (s .entry)) ⌝ }
     ensures { λ _. ⌜ now (image .exit) ≡ imageLeft (now (image .entry)) k (now (s .entry)) ⌝ }
     ensures { λ _. ⌜ now (out .exit) ≡ outputLeft (now (image .entry)) k (now (s .entry)) (now (out .entry)) ⌝ }

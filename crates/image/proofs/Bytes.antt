@@ -7,12 +7,12 @@ use lib.ListN.{length, getD, replicate}
 use Rattle.common.specs.Spell.{spell}
 use Rattle.common.proofs.Each.{Each, each-at, done, _also_}
 use Rattle.panel.specs.declared.Panel.{Panel}
-use Rattle.image.specs.Layout.{SIZE, byteAt, low, high, wordBytes}
+use Rattle.image.specs.Layout.{IMAGE-LEN, byteAt, low, high, wordBytes}
 use Rattle.image.specs.Image.{encoded}
 use Rattle.image.specs.Sound.{SoundPanel}
 use Rattle.image.proofs.Numbers.{pins-small}
 
-pub encoded-length : (p : Panel) → length (encoded p) ≡ SIZE
+pub encoded-length : (p : Panel) → length (encoded p) ≡ IMAGE-LEN
 encoded-length p = refl
 
 abbrev Byte : ℕ → Type 0

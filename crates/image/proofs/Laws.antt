@@ -13,11 +13,12 @@ use Rattle.common.proofs.Choice.{or-cases}
 use Rattle.common.proofs.Spell.{spell-all}
 use Rattle.registers.proofs.Watchdog.{load-most}
 use Rattle.controller.specs.declared.Core.{Core}
-use Rattle.controller.specs.Sound.{knownProtocol, Sound}
+use Rattle.remote.specs.Frame.{isProtocol}
+use Rattle.controller.specs.Sound.{Sound}
 use Rattle.controller.specs.State.{rtc, power, keys, sixteenths}
 use Rattle.panel.specs.declared.Panel.{Panel}
 use Rattle.image.specs.Layout as at
-use Rattle.image.specs.Layout.{SIZE, byteAt, Bytes, wordAt, low, high}
+use Rattle.image.specs.Layout.{IMAGE-LEN, byteAt, Bytes, wordAt, low, high}
 use Rattle.image.specs.Image.{rtcIn, powerIn, setupIn, keysIn, displayIn, decoded, pinsByte, statusBytes, wordsOf, encoded}
 use Rattle.image.specs.Sound.{SoundPanel}
 use Rattle.image.proofs.Numbers.{low-back, high-back, word-back, setup-back, protocol-back, value-back, pins-back, bits-back, byte-back}
@@ -26,11 +27,11 @@ use Rattle.image.proofs.Numbers.{low-back, high-back, word-back, setup-
 
 -- an image of which the state keeps every bit
 pub record Whole (l : List ℕ) : Type 0 where
-  pub sized : length l ≡ SIZE
+  pub sized : length l ≡ IMAGE-LEN
   pub bytes : Bytes l
   pub pins : byteAt l at.PINS < 8
-  pub setup : byteAt l at.PROTOCOL < 128
-  pub zeros : spell at.TAIL 20 l ≡ replicate 20 0
+  pub setup : byteAt l at.SETUP < 128
+  pub zeros : spell at.UNUSED 20 l ≡ replicate 20 0
 
 module _ (l : List ℕ) (w : Whole l) where
   low-at : (i : ℕ) → low (wordAt l i) ≡ byteAt l i
@@ -55,7 +56,7 @@ module _ (l : List ℕ) (w : Whole l) where
 
 -- ---- From a state to its image and back
 
-pub small-protocol : (p : ℕ) → knownProtocol p ≡ true → p < 8
+pub small-protocol : (p : ℕ) → isProtocol p ≡ true → p < 8
 small-protocol p h =
     ⊎-elim
     (λ e. ⊎-elim (λ f. omega (arith, eqb-true p 0 f)) (λ f. omega (arith, eqb-true p 2 f)) (or-cases (eqb p 0) (eqb p 2) e))

@@ -13,13 +13,13 @@ use Rattle.image.specs.Layout.{byteAt, wordAt, READY, WAKE-UP, STBY}
 use Rattle.image.specs.Image.{registersIn, rtcIn, powerIn, setupIn, keysIn, remoteIn, coreIn, displayIn, decoded, pinsByte, fieldBytes, laidOut, encoded}
 
 module _ (l : List ℕ) where
-  pub keys-in : (m s a t : ℕ) → m ≡ wordAt l at.MASK → s ≡ wordAt l at.SAMPLE → a ≡ wordAt l at.ACCEPTED → t ≡ wordAt l at.STORE → keys m s a t ≡ keysIn l
+  pub keys-in : (m s a t : ℕ) → m ≡ wordAt l at.HOT-KEYS → s ≡ wordAt l at.LAST-SAMPLE → a ≡ wordAt l at.ACCEPTED-KEYS → t ≡ wordAt l at.KEY-STORE → keys m s a t ≡ keysIn l
   keys-in m s a t em es ea et = λ i. keys (em i) (es i) (ea i) (et i)
 
-  pub power-in : (r w s : Bool) (g : Sixteenths) → g .0 ≡ wordAt l at.GUARD → r ≡ bitSet (byteAt l at.PINS) READY → w ≡ bitSet (byteAt l at.PINS) WAKE-UP → s ≡ bitSet (byteAt l at.PINS) STBY → power r w s g ≡ powerIn l
+  pub power-in : (r w s : Bool) (g : Sixteenths) → g .0 ≡ wordAt l at.GUARD-LEFT → r ≡ bitSet (byteAt l at.PINS) READY → w ≡ bitSet (byteAt l at.PINS) WAKE-UP → s ≡ bitSet (byteAt l at.PINS) STBY → power r w s g ≡ powerIn l
   power-in r w s g eg er ew es = λ i. power (er i) (ew i) (es i) (sixteenths (eg i))
 
-  pub rtc-in : (rs : List ℕ) (w : Sixteenths) → rs ≡ registersIn l → w .0 ≡ wordAt l at.WATCHDOG → rtc rs (sixteenths (byteAt l at.SIXTEENTHS)) (byteAt l at.FLAGS) w ≡ rtcIn l
+  pub rtc-in : (rs : List ℕ) (w : Sixteenths) → rs ≡ registersIn l → w .0 ≡ wordAt l at.WATCHDOG-LEFT → rtc rs (sixteenths (byteAt l at.SIXTEENTHS)) (byteAt l at.FLAGS) w ≡ rtcIn l
   rtc-in rs w er ew = λ i. rtc (er i) (sixteenths (byteAt l at.SIXTEENTHS)) (byteAt l at.FLAGS) (sixteenths (ew i))
 
   pub core-in : (c : Core) → c .rtc ≡ rtcIn l → c .power ≡ powerIn l → c .setup ≡ setupIn l → c .keys ≡ keysIn l → c .remote ≡ remoteIn l → c .interrupt ≡ byteAt l at.INTERRUPT → c ≡ coreIn l

@@ -23,26 +23,26 @@ abbrev pub registersIn : List ℕ → List ℕ
 registersIn l = spell at.REGISTERS 16 l
 
 abbrev pub rtcIn : List ℕ → Rtc
-rtcIn l = rtc (registersIn l) (sixteenths (byteAt l at.SIXTEENTHS)) (byteAt l at.FLAGS) (sixteenths (wordAt l at.WATCHDOG))
+rtcIn l = rtc (registersIn l) (sixteenths (byteAt l at.SIXTEENTHS)) (byteAt l at.FLAGS) (sixteenths (wordAt l at.WATCHDOG-LEFT))
 
 abbrev pub powerIn : List ℕ → Power
 powerIn l =
-    power (bitSet (byteAt l at.PINS) READY) (bitSet (byteAt l at.PINS) WAKE-UP) (bitSet (byteAt l at.PINS) STBY) (sixteenths (wordAt l at.GUARD))
+    power (bitSet (byteAt l at.PINS) READY) (bitSet (byteAt l at.PINS) WAKE-UP) (bitSet (byteAt l at.PINS) STBY) (sixteenths (wordAt l at.GUARD-LEFT))
 
 -- the protocol in b6..b4, the guard value in b3..b0
 abbrev pub setupIn : List ℕ → Setup
 setupIn l =
     record {
       configuration = byteAt l at.CONFIGURATION;
-      protocol = byteAt l at.PROTOCOL / 16 % 8;
-      guardvalue = record { 0 = byteAt l at.PROTOCOL % 16 };
+      protocol = byteAt l at.SETUP / 16 % 8;
+      guardvalue = record { 0 = byteAt l at.SETUP % 16 };
     }
 
 abbrev pub keysIn : List ℕ → Keys
-keysIn l = keys (wordAt l at.MASK) (wordAt l at.SAMPLE) (wordAt l at.ACCEPTED) (wordAt l at.STORE)
+keysIn l = keys (wordAt l at.HOT-KEYS) (wordAt l at.LAST-SAMPLE) (wordAt l at.ACCEPTED-KEYS) (wordAt l at.KEY-STORE)
 
 abbrev pub remoteIn : List ℕ → Remote
-remoteIn l = remote (byteAt l at.FRESH) (byteAt l at.ADDRESS) (byteAt l at.COMMAND)
+remoteIn l = remote (byteAt l at.REMOTE-FRESH) (byteAt l at.REMOTE-ADDRESS) (byteAt l at.REMOTE-COMMAND)
 
 abbrev pub coreIn : List ℕ → Core
 coreIn l =
@@ -56,7 +56,7 @@ coreIn l =
     }
 
 abbrev pub displayIn : List ℕ → Display
-displayIn l = record { digits = byteAt l at.DIGITS; control = byteAt l at.CONTROL; bytes = spell at.DIGIT-BYTES 5 l }
+displayIn l = record { digits = byteAt l at.DIGITS; control = byteAt l at.DISPLAY-CONTROL; bytes = spell at.DIGIT-BYTES 5 l }
 
 -- THE STATE that an image holds
 abbrev pub decoded : List ℕ → Panel

@@ -5,8 +5,8 @@ use lib.ListN.{getD}
 
 -- ---- Bytes
 
-abbrev pub SIZE : ℕ
-SIZE = 64
+abbrev pub IMAGE-LEN : ℕ
+IMAGE-LEN = 64
 
 abbrev pub REGISTERS : ℕ
 REGISTERS = 0
@@ -26,47 +26,47 @@ PINS = 19
 abbrev pub CONFIGURATION : ℕ
 CONFIGURATION = 20
 
-abbrev pub PROTOCOL : ℕ
-PROTOCOL = 21
+abbrev pub SETUP : ℕ
+SETUP = 21
 
-abbrev pub GUARD : ℕ
-GUARD = 22
+abbrev pub GUARD-LEFT : ℕ
+GUARD-LEFT = 22
 
-abbrev pub WATCHDOG : ℕ
-WATCHDOG = 24
+abbrev pub WATCHDOG-LEFT : ℕ
+WATCHDOG-LEFT = 24
 
-abbrev pub MASK : ℕ
-MASK = 26
+abbrev pub HOT-KEYS : ℕ
+HOT-KEYS = 26
 
-abbrev pub SAMPLE : ℕ
-SAMPLE = 28
+abbrev pub LAST-SAMPLE : ℕ
+LAST-SAMPLE = 28
 
-abbrev pub ACCEPTED : ℕ
-ACCEPTED = 30
+abbrev pub ACCEPTED-KEYS : ℕ
+ACCEPTED-KEYS = 30
 
-abbrev pub STORE : ℕ
-STORE = 32
+abbrev pub KEY-STORE : ℕ
+KEY-STORE = 32
 
-abbrev pub FRESH : ℕ
-FRESH = 34
+abbrev pub REMOTE-FRESH : ℕ
+REMOTE-FRESH = 34
 
-abbrev pub ADDRESS : ℕ
-ADDRESS = 35
+abbrev pub REMOTE-ADDRESS : ℕ
+REMOTE-ADDRESS = 35
 
-abbrev pub COMMAND : ℕ
-COMMAND = 36
+abbrev pub REMOTE-COMMAND : ℕ
+REMOTE-COMMAND = 36
 
 abbrev pub DIGITS : ℕ
 DIGITS = 37
 
-abbrev pub CONTROL : ℕ
-CONTROL = 38
+abbrev pub DISPLAY-CONTROL : ℕ
+DISPLAY-CONTROL = 38
 
 abbrev pub DIGIT-BYTES : ℕ
 DIGIT-BYTES = 39
 
-abbrev pub TAIL : ℕ
-TAIL = 44
+abbrev pub UNUSED : ℕ
+UNUSED = 44
 
 -- ---- Bits of byte 19, by their weights
 

@@ -2,7 +2,7 @@
 ghost use mathlib.Core.Path.{_≡_};
 ghost use Prim.Native.Nat.{_+_, _*_, _<_};
 ghost use lib.ListN.{length};
-ghost use Rattle.image.specs.Layout.{SIZE, wordAt};
+ghost use Rattle.image.specs.Layout.{IMAGE-LEN, wordAt};
 ghost use Rattle.image.specs.Image.{registersIn, rtcIn, powerIn, setupIn, keysIn, remoteIn, coreIn, displayIn, decoded, pinsByte, fieldBytes, laidOut, encoded};
 use controller::Core;
 use controller::Keys;
@@ -16,7 +16,7 @@ use units::Seconds;
 use units::Sixteenths;
 
 // How many bytes an image has.
-pub const SIZE: usize = 64;
+pub const IMAGE_LEN: usize = 64;
 
 // Where things stand in the image.
 const SIXTEENTHS: usize = 16;
@@ -29,29 +29,33 @@ pub const PINS: usize = 19;
 
 pub const CONFIGURATION: usize = 20;
 
-pub const PROTOCOL: usize = 21;
+pub const SETUP: usize = 21;
 
-const GUARD: usize = 22;
+const GUARD_LEFT: usize = 22;
 
-const WATCHDOG: usize = 24;
+const WATCHDOG_LEFT: usize = 24;
 
-const MASK: usize = 26;
+const HOT_KEYS: usize = 26;
 
-const SAMPLE: usize = 28;
+const LAST_SAMPLE: usize = 28;
 
-const ACCEPTED: usize = 30;
+const ACCEPTED_KEYS: usize = 30;
 
-const STORE: usize = 32;
+const KEY_STORE: usize = 32;
 
-const FRESH: usize = 34;
+const REMOTE_FRESH: usize = 34;
 
-const ADDRESS: usize = 35;
+const REMOTE_ADDRESS: usize = 35;
 
-const COMMAND: usize = 36;
+const REMOTE_COMMAND: usize = 36;
 
 const DIGITS: usize = 37;
 
-pub const CONTROL: usize = 38;
+pub const DISPLAY_CONTROL: usize = 38;
+
+const DIGIT_BYTES: usize = 39;
+
+pub const UNUSED: usize = 44;
 
 // Bits of the pins' byte.
 const READY: u8 = 1;
@@ -96,17 +100,17 @@ fn decode_keys(image: [u8; 64]) -> Keys
     ensures { λ r. ⌜ r ≡ keysIn image ⌝ }
 {
     Keys {
-        mask: word_at(image, MASK),
-        sample: word_at(image, SAMPLE),
-        accepted: word_at(image, ACCEPTED),
-        store: word_at(image, STORE),
+        mask: word_at(image, HOT_KEYS),
+        sample: word_at(image, LAST_SAMPLE),
+        accepted: word_at(image, ACCEPTED_KEYS),
+        store: word_at(image, KEY_STORE),
     }
 }
 
 fn decode_power(image: [u8; 64]) -> Power
     ensures { λ r. ⌜ r ≡ powerIn image ⌝ }
 {
-    let guard = decode_sixteenths(image, GUARD);
+    let guard = decode_sixteenths(image, GUARD_LEFT);
     let pins = image[PINS];
     Power {
         ready: common::bit(pins, READY),
@@ -120,7 +124,7 @@ fn decode_rtc(image: [u8; 64]) -> Rtc
     ensures { λ r. ⌜ r ≡ rtcIn image ⌝ }
 {
     let registers = decode_registers(image);
-    let watchdog = decode_sixteenths(image, WATCHDOG);
+    let watchdog = decode_sixteenths(image, WATCHDOG_LEFT);
     let sixteenths = Sixteenths(image[SIXTEENTHS] as u64);
     Rtc {
         registers,
@@ -133,10 +137,10 @@ fn decode_rtc(image: [u8; 64]) -> Rtc
 fn decode_setup(image: [u8; 64]) -> Setup
     ensures { λ r. ⌜ r ≡ setupIn image ⌝ }
 {
-    let guardvalue = Seconds((image[PROTOCOL] % 16) as u32);
+    let guardvalue = Seconds((image[SETUP] % 16) as u32);
     Setup {
         configuration: image[CONFIGURATION],
-        protocol: image[PROTOCOL] / 16 % 8,
+        protocol: image[SETUP] / 16 % 8,
         guardvalue,
     }
 }
@@ -145,9 +149,9 @@ fn decode_remote(image: [u8; 64]) -> Remote
     ensures { λ r. ⌜ r ≡ remoteIn image ⌝ }
 {
     Remote {
-        fresh: image[FRESH],
-        address: image[ADDRESS],
-        command: image[COMMAND],
+        fresh: image[REMOTE_FRESH],
+        address: image[REMOTE_ADDRESS],
+        command: image[REMOTE_COMMAND],
     }
 }
 
@@ -167,10 +171,16 @@ fn decode_core(image: [u8; 64]) -> Core
 fn decode_display(image: [u8; 64]) -> Display
     ensures { λ r. ⌜ r ≡ displayIn image ⌝ }
 {
-    let bytes = [image[39], image[40], image[41], image[42], image[43]];
+    let bytes = [
+        image[DIGIT_BYTES],
+        image[DIGIT_BYTES + 1],
+        image[DIGIT_BYTES + 2],
+        image[DIGIT_BYTES + 3],
+        image[DIGIT_BYTES + 4],
+    ];
     Display {
         digits: image[DIGITS],
-        control: image[CONTROL],
+        control: image[DISPLAY_CONTROL],
         bytes,
     }
 }
@@ -259,7 +269,7 @@ pub fn encode(p: Panel) -> [u8; 64]
 
 // The image's bytes by value; the compiler copies 64 bytes faster than as many as there are.
 pub fn load(image: &[u8]) -> [u8; 64]
-    requires { ⌜ length (now image) ≡ SIZE ⌝ }
+    requires { ⌜ length (now image) ≡ IMAGE-LEN ⌝ }
     ensures { λ r. ⌜ r ≡ now (image .entry) ⌝ }
 {
     let mut a = [0u8; 64];
@@ -269,7 +279,7 @@ pub fn load(image: &[u8]) -> [u8; 64]
 
 // The image's registers by value.
 pub fn load_registers(image: &[u8]) -> [u8; 16]
-    requires { ⌜ length (now image) ≡ SIZE ⌝ }
+    requires { ⌜ length (now image) ≡ IMAGE-LEN ⌝ }
     ensures { λ r. ⌜ r ≡ registersIn (now (image .entry)) ⌝ }
 {
     let mut a = [0u8; 16];
@@ -279,7 +289,7 @@ pub fn load_registers(image: &[u8]) -> [u8; 16]
 
 // The bytes written to the image.
 pub fn save(image: &mut [u8], a: [u8; 64])
-    requires { ⌜ length (now image) ≡ SIZE ⌝ }
+    requires { ⌜ length (now image) ≡ IMAGE-LEN ⌝ }
     ensures { λ _. ⌜ now (image .exit) ≡ a ⌝ }
 {
     let b = a;

@@ -4,6 +4,10 @@ use mathlib.Core.List.{List}
 use lib.ListN.{getD}
 use Rattle.common.specs.Fill.{upTo}
 
+-- what stands beyond a reply
+abbrev pub FILL : ℕ
+FILL = 0xFF
+
 -- an output of n bytes: the reply's bytes, as many as fit, then FFh to the end
 unfoldable pub answered : List ℕ → ℕ → List ℕ
-answered reply n = upTo (λ i. getD reply i 0xFF) n
+answered reply n = upTo (λ i. getD reply i FILL) n

@@ -4,7 +4,7 @@ ghost use lib.ListN.{length};
 ghost use Rattle.output.specs.Output.{answered};
 
 // What stands beyond a reply.
-const BEYOND: u8 = 0xFF;
+const FILL: u8 = 0xFF;
 
 // Writes the reply, as much of it as the output holds, and FFh beyond it.
 pub fn answer(out: &mut [u8], reply: &[u8])
@@ -12,7 +12,7 @@ pub fn answer(out: &mut [u8], reply: &[u8])
 {
     let mut i = 0;
     while i < out.len() {
-        out[i] = common::byte_or(reply, i, BEYOND);
+        out[i] = common::byte_or(reply, i, FILL);
         i += 1;
     }
 }

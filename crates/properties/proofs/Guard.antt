@@ -6,7 +6,7 @@ use native.Mathlib.Omega.{arith}
 use borrow.Author.Tests.{eq-eqb, ne-eqb}
 use Rattle.controller.specs.declared.Core.{Core}
 use Rattle.controller.specs.declared.Setup.{Setup}
-use Rattle.controller.specs.State.{guardSleeps}
+use Rattle.controller.specs.State.{guardStandby}
 use Rattle.controller.specs.Standby.{guardLoad}
 use Rattle.controller.specs.Sound.{Sound}
 use Rattle.controller.specs.Tick.{ticked}
@@ -46,15 +46,15 @@ module _ {w : ℕ} {c : Core} (h : Sound w c) where
     guard-runs zero l = (low, omega arith)
     guard-runs (suc n) l =
         let before = guard-runs n (omega arith) in (
-          stby-low-ticked (ticks n c) (before .0) ∙ ap (λ (b : Bool). b && guardSleeps (ticks n c)) (ne-eqb ((ticks n c) .power .guard .0) 1 (λ e. omega (arith, before .1))),
+          stby-low-ticked (ticks n c) (before .0) ∙ ap (λ (b : Bool). b && guardStandby (ticks n c)) (ne-eqb ((ticks n c) .power .guard .0) 1 (λ e. omega (arith, before .1))),
           omega (arith, guard-low-ticked (ticks n c) (before .0) (sound-ticks n), before .1),
         )
 
     -- the tick in which it runs out
-    pub guard-out : (n : ℕ) → c .power .guard .0 ≡ suc n → (ticks (suc n) c) .power .stby ≡ guardSleeps c
+    pub guard-out : (n : ℕ) → c .power .guard .0 ≡ suc n → (ticks (suc n) c) .power .stby ≡ guardStandby c
     unfolding ticks guardEnds
     guard-out n e =
         let before = guard-runs n (omega arith) in
         stby-low-ticked (ticks n c) (before .0)
-        ∙ ap (λ (b : Bool). b && guardSleeps (ticks n c)) (eq-eqb ((ticks n c) .power .guard .0) 1 (omega (arith, before .1)))
+        ∙ ap (λ (b : Bool). b && guardStandby (ticks n c)) (eq-eqb ((ticks n c) .power .guard .0) 1 (omega (arith, before .1)))
         ∙ ap (λ (s : Setup). bitSet (s .configuration) 1) (setup-ticks c n)

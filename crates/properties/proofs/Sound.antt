@@ -20,7 +20,7 @@ use Rattle.registers.specs.Names.{stopped, AFE, WDFEn}
 use Rattle.timekeeper.specs.Clock.{clockOf, withClock, validCalendar}
 use Rattle.timekeeper.specs.Alarm.{alarmOf}
 use Rattle.controller.specs.declared.Core.{Core}
-use Rattle.controller.specs.State.{withPower, withRemote, rtc, power, keys, remote, sixteenths, guardSleeps, everyKeyHot, remoteWakes, wakeUpCounts, KEY, REMOTE, WAKE-UP, RTC, ALARM-FLAG, WATCHDOG-FLAG}
+use Rattle.controller.specs.State.{withPower, withRemote, rtc, power, keys, remote, sixteenths, guardStandby, allHot, remoteWakes, wakeUpCounts, KEY, REMOTE, WAKE-UP, RTC, ALARM-FLAG, WATCHDOG-FLAG}
 use Rattle.controller.specs.Standby.{guardLoad, standbyBegun, standbyEnded, raised}
 use Rattle.controller.specs.Tick.{secondPassed, clockTicked, watchdogTicked, guardTicked, ticked}
 use Rattle.controller.specs.Keys.{without, counted, pressed, sampled}
@@ -88,7 +88,7 @@ module _ {w : ℕ} {c : Core} (h : Sound w c) where
   unfolding guardTicked
   sound-guardTicked =
       of-cond (Sound w) (eqb (c .power .guard .0) 0) _ _ (λ e. h)
-      (λ e. of-cond (Sound w) (eqb (c .power .guard .0) 1 && guardSleeps c) _ _ (λ l. sound-standbyBegun h)
+      (λ e. of-cond (Sound w) (eqb (c .power .guard .0) 1 && guardStandby c) _ _ (λ l. sound-standbyBegun h)
       (λ l. sound-power h _ (record { guard = omega (arith, h .power .guard); stopped = λ s. omega (arith, h .power .stopped s) })))
 
 pub sound-ticked : {w : ℕ} {c : Core} → Sound w c → Sound w (ticked c)
@@ -101,7 +101,7 @@ module _ {w : ℕ} {c : Core} (h : Sound w c) where
   counted-below : (new : ℕ) → new < 2 ^ w → counted c new < 2 ^ w
   counted-below new hn =
       of-cond (λ (n : ℕ). n < 2 ^ w) (c .power .stby) _ _
-      (λ e. of-cond (λ (n : ℕ). n < 2 ^ w) (everyKeyHot c) _ _ (λ a. hn) (λ a. lt-of-le-of-lt (and-le-l new (c .keys .mask)) hn)) (λ e. hn)
+      (λ e. of-cond (λ (n : ℕ). n < 2 ^ w) (allHot c) _ _ (λ a. hn) (λ a. lt-of-le-of-lt (and-le-l new (c .keys .mask)) hn)) (λ e. hn)
 
   sound-pressed : (new : ℕ) → new < 2 ^ w → Sound w (pressed c new)
   unfolding pressed

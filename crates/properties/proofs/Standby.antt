@@ -15,13 +15,13 @@ use Rattle.controller.specs.declared.Setup.{Setup}
 use Rattle.controller.specs.State.{power, remoteWakes, wakeUpCounts, KEY, REMOTE, WAKE-UP}
 use Rattle.controller.specs.Standby.{guardLoad}
 use Rattle.controller.specs.Tick.{ticked}
-use Rattle.controller.specs.Keys.{without, counted, pressed, sampled}
+use Rattle.controller.specs.Keys.{without, counted, pressed, sampled, hot}
 use Rattle.controller.specs.Remote.{keyed}
 use Rattle.controller.specs.Pins.{readySet, wakeUpSet}
 use Rattle.controller.specs.Sound.{Sound}
-use Rattle.properties.specs.Causes.{rtcEvent, guardEnds, hot, hotPress, remoteCounts, readyFalls, wakeUpRises}
+use Rattle.properties.specs.Causes.{rtcEvent, guardEnds, hotPress, remoteCounts, readyFalls, wakeUpRises}
 use Rattle.properties.proofs.Raised.{stby-raised}
-use Rattle.properties.proofs.Steps.{roused, guarded, one-not-none, power-ticked}
+use Rattle.properties.proofs.Steps.{wokenBy, guarded, one-not-none, power-ticked}
 
 abbrev stby : Core → Bool
 stby c = c .power .stby
@@ -60,30 +60,30 @@ module _ (s : Setup) (p : Power) where
 
 module _ (s : Setup) (ready wakeup : Bool) (g : Sixteenths) where
   -- a guard just loaded is not at its end: 16 times a value is not 1
-  stby-roused : (event stby : Bool) → atEnd s (roused s event (power ready wakeup stby g)) ≡ cond stby (not event) (eqb (g .0) 1 && bitSet (s .configuration) 1)
+  stby-wokenBy : (event stby : Bool) → atEnd s (wokenBy s event (power ready wakeup stby g)) ≡ cond stby (not event) (eqb (g .0) 1 && bitSet (s .configuration) 1)
   unfolding atEnd
-  stby-roused true true = ap (λ (b : Bool). b && bitSet (s .configuration) 1) (ne-eqb (sixteenthsOf (s .guardvalue) .0) 1 (λ e. omega arith))
-  stby-roused true false = refl
-  stby-roused false true = refl
-  stby-roused false false = refl
+  stby-wokenBy true true = ap (λ (b : Bool). b && bitSet (s .configuration) 1) (ne-eqb (sixteenthsOf (s .guardvalue) .0) 1 (λ e. omega arith))
+  stby-wokenBy true false = refl
+  stby-wokenBy false true = refl
+  stby-wokenBy false false = refl
 
-  guard-roused : (event stby : Bool) → (stby ≡ true → g .0 ≡ 0) → (roused s event (power ready wakeup stby g)) .guard .0 ≡ cond stby (cond event (sixteenthsOf (s .guardvalue) .0) 0) (g .0)
-  guard-roused true true h = refl
-  guard-roused true false h = refl
-  guard-roused false true h = h refl
-  guard-roused false false h = refl
+  guard-wokenBy : (event stby : Bool) → (stby ≡ true → g .0 ≡ 0) → (wokenBy s event (power ready wakeup stby g)) .guard .0 ≡ cond stby (cond event (sixteenthsOf (s .guardvalue) .0) 0) (g .0)
+  guard-wokenBy true true h = refl
+  guard-wokenBy true false h = refl
+  guard-wokenBy false true h = h refl
+  guard-wokenBy false false h = refl
 
 pub stby-ticked : (c : Core) → (ticked c) .power .stby ≡ cond (c .power .stby) (not (rtcEvent c)) (guardEnds c)
 unfolding guardEnds
 stby-ticked c =
-    ap (λ (p : Power). p .stby) (power-ticked c) ∙ stby-guarded (c .setup) (roused (c .setup) (rtcEvent c) (c .power))
-    ∙ stby-roused (c .setup) (c .power .ready) (c .power .wakeup) (c .power .guard) (rtcEvent c) (c .power .stby)
+    ap (λ (p : Power). p .stby) (power-ticked c) ∙ stby-guarded (c .setup) (wokenBy (c .setup) (rtcEvent c) (c .power))
+    ∙ stby-wokenBy (c .setup) (c .power .ready) (c .power .wakeup) (c .power .guard) (rtcEvent c) (c .power .stby)
 
 -- the guard falls by one, from its load in a tick that wakes, and else stays stopped with STBY high
 pub guard-ticked : {w : ℕ} {c : Core} → Sound w c → (ticked c) .power .guard .0 ≡ cond (c .power .stby) (cond (rtcEvent c) (guardLoad c .0) 0) (c .power .guard .0) - 1
 guard-ticked {c = c} h =
-    ap (λ (p : Power). p .guard .0) (power-ticked c) ∙ guard-guarded (c .setup) (roused (c .setup) (rtcEvent c) (c .power))
-    ∙ ap (λ (n : ℕ). n - 1) (guard-roused (c .setup) (c .power .ready) (c .power .wakeup) (c .power .guard) (rtcEvent c) (c .power .stby) (h .power .stopped))
+    ap (λ (p : Power). p .guard .0) (power-ticked c) ∙ guard-guarded (c .setup) (wokenBy (c .setup) (rtcEvent c) (c .power))
+    ∙ ap (λ (n : ℕ). n - 1) (guard-wokenBy (c .setup) (c .power .ready) (c .power .wakeup) (c .power .guard) (rtcEvent c) (c .power .stby) (h .power .stopped))
 
 -- ---- Keys
 

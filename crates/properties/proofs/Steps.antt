@@ -16,7 +16,7 @@ use Rattle.controller.specs.declared.Core.{Core}
 use Rattle.controller.specs.declared.Rtc.{Rtc}
 use Rattle.controller.specs.declared.Power.{Power}
 use Rattle.controller.specs.declared.Setup.{Setup}
-use Rattle.controller.specs.State.{withRtc, withPower, rtc, power, sixteenths, guardSleeps, RTC}
+use Rattle.controller.specs.State.{withRtc, withPower, rtc, power, sixteenths, guardStandby, RTC}
 use Rattle.controller.specs.Standby.{raised}
 use Rattle.controller.specs.Tick.{secondPassed, clockTicked, watchdogTicked, guardTicked, ticked}
 use Rattle.properties.specs.Causes.{secondPasses, nextSecond, alarmRises, watchdogEnds, rtcEvent}
@@ -55,8 +55,8 @@ one-not-none (suc n) = ap (λ (b : Bool). b && eqb (suc n) 1) (eqb·suc-zero n)
 -- ---- The power part
 
 -- after an event that ends standby, where it happens
-abbrev pub roused : Setup → Bool → Power → Power
-roused s event p = cond (event && p .stby) (woken s p) p
+abbrev pub wokenBy : Setup → Bool → Power → Power
+wokenBy s event p = cond (event && p .stby) (woken s p) p
 
 -- after the guard's step
 abbrev pub guarded : Setup → Power → Power
@@ -66,13 +66,13 @@ guarded s p =
     (power (p .ready) (p .wakeup) (p .stby) (sixteenths (p .guard .0 - 1))))
 
 -- two events one after the other end standby as either does
-roused-roused : (s : Setup) (a b ready wakeup stby : Bool) (g : Sixteenths)
-    → roused s b (roused s a (power ready wakeup stby g)) ≡ roused s (a || b) (power ready wakeup stby g)
-roused-roused s true true ready wakeup true g = refl
-roused-roused s true true ready wakeup false g = refl
-roused-roused s true false ready wakeup true g = refl
-roused-roused s true false ready wakeup false g = refl
-roused-roused s false b ready wakeup stby g = refl
+wokenBy-wokenBy : (s : Setup) (a b ready wakeup stby : Bool) (g : Sixteenths)
+    → wokenBy s b (wokenBy s a (power ready wakeup stby g)) ≡ wokenBy s (a || b) (power ready wakeup stby g)
+wokenBy-wokenBy s true true ready wakeup true g = refl
+wokenBy-wokenBy s true true ready wakeup false g = refl
+wokenBy-wokenBy s true false ready wakeup true g = refl
+wokenBy-wokenBy s true false ready wakeup false g = refl
+wokenBy-wokenBy s false b ready wakeup stby g = refl
 
 -- ---- First step: the clock
 
@@ -103,7 +103,7 @@ module _ (c : Core) {A : Type 0} (f : Core → A)
     after-clock = clock-view ∙ ap (λ (y : A). cond (secondPasses c) y (f c)) after-second
 
 module _ (c : Core) where
-  power-clockTicked : (clockTicked c) .power ≡ roused (c .setup) (alarmRises c) (c .power)
+  power-clockTicked : (clockTicked c) .power ≡ wokenBy (c .setup) (alarmRises c) (c .power)
   unfolding alarmRises secondPassed
   power-clockTicked =
       clock-view c (λ (x : Core). x .power) (λ s. refl)
@@ -128,7 +128,7 @@ module _ (c : Core) where
 -- ---- Second step: the watchdog
 
 module _ (c : Core) where
-  power-watchdogTicked : (watchdogTicked c) .power ≡ roused (c .setup) (watchdogEnds c) (c .power)
+  power-watchdogTicked : (watchdogTicked c) .power ≡ wokenBy (c .setup) (watchdogEnds c) (c .power)
   unfolding watchdogTicked watchdogEnds
   power-watchdogTicked =
       ap-cond (λ (x : Core). x .power) (eqb (c .rtc .watchdog .0) 0 || stopped (c .rtc .registers)) _ _
@@ -162,14 +162,14 @@ module _ (c : Core) where
   unfolding guardTicked
   power-guardTicked =
       ap-cond (λ (x : Core). x .power) (eqb (c .power .guard .0) 0) _ _
-      ∙ ap (cond (eqb (c .power .guard .0) 0) (c .power)) (ap-cond (λ (x : Core). x .power) (eqb (c .power .guard .0) 1 && guardSleeps c) _ _)
+      ∙ ap (cond (eqb (c .power .guard .0) 0) (c .power)) (ap-cond (λ (x : Core). x .power) (eqb (c .power .guard .0) 1 && guardStandby c) _ _)
 
   -- a view that does not show the power part stays as it was
   guard-view : {A : Type 0} (f : Core → A) → ((p : Power) → f (withPower c p) ≡ f c) → f (guardTicked c) ≡ f c
   unfolding guardTicked
   guard-view f other =
       of-cond (λ (x : Core). f x ≡ f c) (eqb (c .power .guard .0) 0) _ _ (λ e. refl)
-      (λ e. of-cond (λ (x : Core). f x ≡ f c) (eqb (c .power .guard .0) 1 && guardSleeps c) _ _ (λ l. other _) (λ l. other _))
+      (λ e. of-cond (λ (x : Core). f x ≡ f c) (eqb (c .power .guard .0) 1 && guardStandby c) _ _ (λ l. other _) (λ l. other _))
 
   setup-guardTicked : (guardTicked c) .setup ≡ c .setup
   setup-guardTicked = guard-view (λ (x : Core). x .setup) (λ p. refl)
@@ -183,13 +183,13 @@ module _ (c : Core) where
   setup-before : (watchdogTicked (clockTicked c)) .setup ≡ c .setup
   setup-before = setup-watchdogTicked (clockTicked c) ∙ setup-clockTicked c
 
-  power-before : (watchdogTicked (clockTicked c)) .power ≡ roused (c .setup) (rtcEvent c) (c .power)
+  power-before : (watchdogTicked (clockTicked c)) .power ≡ wokenBy (c .setup) (rtcEvent c) (c .power)
   unfolding rtcEvent
   power-before =
-      power-watchdogTicked (clockTicked c) ∙ (λ i. roused (setup-clockTicked c i) (ends-clockTicked c i) (power-clockTicked c i))
-      ∙ roused-roused (c .setup) (alarmRises c) (watchdogEnds c) (c .power .ready) (c .power .wakeup) (c .power .stby) (c .power .guard)
+      power-watchdogTicked (clockTicked c) ∙ (λ i. wokenBy (setup-clockTicked c i) (ends-clockTicked c i) (power-clockTicked c i))
+      ∙ wokenBy-wokenBy (c .setup) (alarmRises c) (watchdogEnds c) (c .power .ready) (c .power .wakeup) (c .power .stby) (c .power .guard)
 
-  pub power-ticked : (ticked c) .power ≡ guarded (c .setup) (roused (c .setup) (rtcEvent c) (c .power))
+  pub power-ticked : (ticked c) .power ≡ guarded (c .setup) (wokenBy (c .setup) (rtcEvent c) (c .power))
   unfolding ticked
   power-ticked = power-guardTicked (watchdogTicked (clockTicked c)) ∙ (λ i. guarded (setup-before i) (power-before i))
 

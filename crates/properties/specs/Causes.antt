@@ -1,7 +1,6 @@
 -- Document 01, "Tick", "Standby begins" and "It ends": what an event brings about, as tests of the state before it.
 use Prim.Native.Nat.{ℕ}
-use mathlib.Core.Bool.{Bool, cond, not, _&&_, _||_}
-use lib.Bits.{bitAnd}
+use mathlib.Core.Bool.{Bool, not, _&&_, _||_}
 use lib.Dec.{eqb}
 use Rattle.calendar.specs.declared.Clock.{Clock}
 use Rattle.calendar.specs.Carry.{next}
@@ -11,8 +10,8 @@ use Rattle.registers.specs.Names.{stopped, AFE, WDFEn}
 use Rattle.timekeeper.specs.Clock.{clockOf}
 use Rattle.timekeeper.specs.Alarm.{alarmOf}
 use Rattle.controller.specs.declared.Core.{Core}
-use Rattle.controller.specs.State.{guardSleeps, everyKeyHot, remoteWakes, wakeUpCounts}
-use Rattle.controller.specs.Keys.{without}
+use Rattle.controller.specs.State.{guardStandby, remoteWakes, wakeUpCounts}
+use Rattle.controller.specs.Keys.{without, hot}
 
 -- ---- A tick
 
@@ -37,13 +36,9 @@ rtcEvent c = alarmRises c || watchdogEnds c
 
 -- the guard, one sixteenth from its end, falls with configuration b0 set
 unfoldable pub guardEnds : Core → Bool
-guardEnds c = eqb (c .power .guard .0) 1 && guardSleeps c
+guardEnds c = eqb (c .power .guard .0) 1 && guardStandby c
 
 -- ---- Keys, remote and pins
-
--- the hot ones of some new presses: those of the mask, or all with b1
-abbrev pub hot : Core → ℕ → ℕ
-hot c new = cond (everyKeyHot c) new (bitAnd new (c .keys .mask))
 
 -- the sample repeats the last one, and of its keys not accepted before some are hot
 unfoldable pub hotPress : Core → ℕ → Bool

@@ -7,6 +7,9 @@ use Rattle.common.specs.Bits.{bitSet}
 
 -- ---- Addresses
 
+abbrev pub RESERVED : ℕ
+RESERVED = 0x00
+
 abbrev pub SECONDS : ℕ
 SECONDS = 0x01
 

@@ -5,7 +5,7 @@ use mathlib.Core.List.{List, [], _∷_, _++_}
 use lib.ListN.{take, drop, getD}
 use lib.Dec.{eqb, ltb}
 use Rattle.common.specs.Tests.{conj}
-use Rattle.registers.specs.Names.{at, MINUTES, WEEKDAY, DATE, MONTH, CALIBRATION, ALARM-MONTH, ALARM-WEEKDAY}
+use Rattle.registers.specs.Names.{at, RESERVED, MINUTES, WEEKDAY, DATE, MONTH, CALIBRATION, ALARM-MONTH, ALARM-WEEKDAY}
 
 -- ---- Reserved bits
 
@@ -60,7 +60,7 @@ kept a b =
 -- the reserved bits of all registers are 0
 abbrev pub reservedTests : List ℕ → List Bool
 reservedTests rs =
-    eqb (at rs 0x00) 0
+    eqb (at rs RESERVED) 0
     ∷ ltb (at rs MINUTES) 128
     ∷ ltb (at rs WEEKDAY) 8
     ∷ ltb (at rs DATE) 64

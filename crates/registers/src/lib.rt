@@ -8,6 +8,8 @@ ghost use Rattle.registers.specs.Watchdog.{watchdogLoad};
 use units::Sixteenths;
 
 // Addresses.
+pub const RESERVED: usize = 0x00;
+
 pub const SECONDS: usize = 0x01;
 
 pub const MINUTES: usize = 0x02;
@@ -38,32 +40,41 @@ pub const ALARM_SECOND: usize = 0x0E;
 
 pub const ALARM_WEEKDAY: usize = 0x0F;
 
+// Bits: 01h b7, 0Ah b7 and b5, 0Fh b7.
+const OSC_ST: u8 = 128;
+
+const AFE: u8 = 128;
+
+const ABE: u8 = 32;
+
+const WDFEN: u8 = 128;
+
 // 01h b7: whether the oscillator is stopped.
 pub fn is_stopped(registers: [u8; 16]) -> bool
     ensures { λ r. ⌜ r ≡ stopped registers ⌝ }
 {
-    common::bit(registers[SECONDS], 128)
+    common::bit(registers[SECONDS], OSC_ST)
 }
 
 // 0Ah b7: whether a match raises the alarm.
-pub fn afe(registers: [u8; 16]) -> bool
+pub fn has_afe(registers: [u8; 16]) -> bool
     ensures { λ r. ⌜ r ≡ AFE registers ⌝ }
 {
-    common::bit(registers[ALARM_MONTH], 128)
+    common::bit(registers[ALARM_MONTH], AFE)
 }
 
 // 0Ah b5: whether the alarm counts in backup.
-pub fn abe(registers: [u8; 16]) -> bool
+pub fn has_abe(registers: [u8; 16]) -> bool
     ensures { λ r. ⌜ r ≡ ABE registers ⌝ }
 {
-    common::bit(registers[ALARM_MONTH], 32)
+    common::bit(registers[ALARM_MONTH], ABE)
 }
 
 // 0Fh b7: whether the watchdog's end raises its flag.
-pub fn wdfen(registers: [u8; 16]) -> bool
+pub fn has_wdfen(registers: [u8; 16]) -> bool
     ensures { λ r. ⌜ r ≡ WDFEn registers ⌝ }
 {
-    common::bit(registers[ALARM_WEEKDAY], 128)
+    common::bit(registers[ALARM_WEEKDAY], WDFEN)
 }
 
 // The byte b as register a keeps it: reserved bits are dropped.
@@ -72,22 +83,22 @@ fn kept_bits(a: usize, b: u8) -> u8
     ensures { λ r. ⌜ r ≡ kept a b ⌝ }
 {
     let kept = [
-        0,
-        b,
-        b % 128,
-        b,
-        b % 8,
-        b % 64,
-        b / 64 * 64 + b % 32,
-        b,
-        b / 128 * 128 + b % 64,
-        b,
-        b / 128 * 128 + b % 64,
-        b,
-        b,
-        b,
-        b,
-        b / 16 * 16,
+        0, // 00h
+        b, // 01h
+        b % 128, // 02h
+        b, // 03h
+        b % 8, // 04h
+        b % 64, // 05h
+        b / 64 * 64 + b % 32, // 06h
+        b, // 07h
+        b / 128 * 128 + b % 64, // 08h
+        b, // 09h
+        b / 128 * 128 + b % 64, // 0Ah
+        b, // 0Bh
+        b, // 0Ch
+        b, // 0Dh
+        b, // 0Eh
+        b / 16 * 16, // 0Fh
     ];
     kept[a]
 }
@@ -96,7 +107,7 @@ fn kept_bits(a: usize, b: u8) -> u8
 pub fn reserved_clear(registers: [u8; 16]) -> bool
     ensures { λ r. ⌜ r ≡ reservedClear registers ⌝ }
 {
-    (registers[0x00] == 0)
+    (registers[RESERVED] == 0)
         & (registers[MINUTES] < 128)
         & (registers[WEEKDAY] < 8)
         & (registers[DATE] < 64)

@@ -14,7 +14,7 @@ necFrame a b c d = a + 256 * b + 65_536 * (c + 256 * d)
 
 -- RC-5 with its start bits
 abbrev pub rc5Frame : ℕ → ℕ → ℕ → ℕ
-rc5Frame toggle a c = 12288 + 2048 * toggle + 64 * a + c
+rc5Frame toggle a c = 12_288 + 2_048 * toggle + 64 * a + c
 
 low : (x y : ℕ) → x + y ≡ 255 → (x + 256 * y) % 256 ≡ x
 low x y h = omega arith
@@ -56,7 +56,7 @@ rc5-frame t a c g h k =
     let f = rc5Frame t a c in
     let p : f / 64 % 32 ≡ a = omega arith in
     let q : f % 64 ≡ c = omega arith in
-    sym (on-true _ _ (eq-eqb (f / 4096) 3 (omega arith))) ∙ (λ i. Key (p i) (q i))
+    sym (on-true _ _ (eq-eqb (f / 4_096) 3 (omega arith))) ∙ (λ i. Key (p i) (q i))
 
 -- protocol 0: every frame is refused by 11
 pub no-protocol : (f : ℕ) → refusalOf (keyOf 0 f) ≡ 11

@@ -26,7 +26,7 @@ nec-bytes f =
 
 rc5-bytes : (f : ℕ) → Bytes (rc5Key f)
 unfolding rc5Key
-rc5-bytes f = tested-bytes (eqb (f / 4096) 3) (f / 64 % 32) (f % 64) (omega arith) (omega arith)
+rc5-bytes f = tested-bytes (eqb (f / 4_096) 3) (f / 64 % 32) (f % 64) (omega arith) (omega arith)
 
 sent-bytes : (p f : ℕ) → Bytes (sentBy p f)
 unfolding sentBy

@@ -1,6 +1,6 @@
 -- Which key a remote frame is (document 01, "Remote frame"). A frame is a number of 32 bits.
 use Prim.Native.Nat.{ℕ, _+_, _/_, _%_}
-use mathlib.Core.Bool.{Bool, cond, _&&_}
+use mathlib.Core.Bool.{Bool, cond, _&&_, _||_}
 use lib.Dec.{eqb}
 use Rattle.remote.specs.declared.Received.{Received}
 use Rattle.remote.specs.declared.Received.the-variants.{Key, NoKey}
@@ -12,6 +12,10 @@ RC5 = 2
 
 abbrev pub NEC : ℕ
 NEC = 4
+
+-- the protocol is 0, 2 or 4: none, RC-5 or NEC
+abbrev pub isProtocol : ℕ → Bool
+isProtocol p = eqb p 0 || eqb p RC5 || eqb p NEC
 
 -- ---- Keys
 
@@ -27,7 +31,7 @@ necKey f =
 
 -- RC-5: from bit 13 down two start bits 1, toggle, 5 bits of address, 6 of command; above bit 13 all 0
 unfoldable pub rc5Key : ℕ → Received
-rc5Key f = cond (eqb (f / 4096) 3) (Key (f / 64 % 32) (f % 64)) NoKey
+rc5Key f = cond (eqb (f / 4_096) 3) (Key (f / 64 % 32) (f % 64)) NoKey
 
 -- the key that a frame sends, for any device; any other protocol sends none
 unfoldable pub sentBy : ℕ → ℕ → Received

@@ -1,11 +1,18 @@
 // Remote frames, NEC and RC-5: a number of 32 bits is a key, or none.
 ghost use mathlib.Core.Path.{_≡_};
-ghost use Rattle.remote.specs.Frame.{addressed, necKey, rc5Key, sentBy, keyOf, refusalOf};
+ghost use Rattle.remote.specs.Frame.{isProtocol, addressed, necKey, rc5Key, sentBy, keyOf, refusalOf};
 
 // The protocols of which a frame can be a key, as b6..b4 of image byte 21 hold them.
 const RC5: u8 = 2;
 
 const NEC: u8 = 4;
+
+// Whether there is a protocol of this number; 0 is none.
+pub fn is_protocol(p: u8) -> bool
+    ensures { λ r. ⌜ r ≡ isProtocol p ⌝ }
+{
+    (p == 0) | (p == RC5) | (p == NEC)
+}
 
 // What a frame says.
 pub enum Received {
@@ -39,7 +46,7 @@ fn rc5_key(frame: u32) -> Received
 {
     let address = frame / 64 % 32;
     let command = frame % 64;
-    if frame / 4096 == 3 {
+    if frame / 4_096 == 3 {
         return Received::Key(address as u8, command as u8);
     }
     Received::NoKey

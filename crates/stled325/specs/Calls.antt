@@ -18,7 +18,7 @@ use Rattle.display.specs.Lines.{linesOf}
 use Rattle.panel.specs.State.{onCore}
 use Rattle.panel.specs.PowerUp.{panelPoweredUp}
 use Rattle.supply.specs.Return.{panelReturned}
-use Rattle.image.specs.Layout.{SIZE}
+use Rattle.image.specs.Layout.{IMAGE-LEN}
 use Rattle.image.specs.Image.{decoded, encoded}
 use Rattle.events.specs.Show.{shownIn}
 use Rattle.stled325.specs.Outcome.{Outcome, decided, invalid}
@@ -26,7 +26,7 @@ use Rattle.stled325.specs.Outcome.{Outcome, decided, invalid}
 -- ---- Power-up takes any 64 bytes
 
 abbrev pub powerUpGrounds : List ℕ → List Ground
-powerUpGrounds l = ground 1 (not (eqb (length l) SIZE)) ∷ []
+powerUpGrounds l = ground 1 (not (eqb (length l) IMAGE-LEN)) ∷ []
 
 abbrev pub powerUpCall : List ℕ → Outcome
 powerUpCall l = decided (powerUpGrounds l) l [] (encoded panelPoweredUp) []
@@ -93,15 +93,22 @@ supplyReturnCall l n = decided (supplyGrounds l n) l [] (imageReturned l n) []
 
 -- ---- Show and lines leave the image as it is
 
+-- how many bytes they write
+abbrev pub DIGITS-LEN : ℕ
+DIGITS-LEN = 5
+
+abbrev pub LINES-LEN : ℕ
+LINES-LEN = 1
+
 -- ground 12: the buffer has not the length asked for
 abbrev pub viewGrounds : ℕ → List ℕ → List ℕ → List Ground
 viewGrounds size l o = invalid l ∷ ground 12 (not (eqb (length o) size)) ∷ []
 
 abbrev pub showCall : List ℕ → List ℕ → Outcome
-showCall l o = decided (viewGrounds 5 l o) l o l (shownIn (decoded l))
+showCall l o = decided (viewGrounds DIGITS-LEN l o) l o l (shownIn (decoded l))
 
 abbrev pub linesIn : Core → List ℕ
 linesIn c = linesOf (c .power .ready) (c .power .stby) (c .interrupt) ∷ []
 
 abbrev pub linesCall : List ℕ → List ℕ → Outcome
-linesCall l o = decided (viewGrounds 1 l o) l o l (linesIn (decoded l .core))
+linesCall l o = decided (viewGrounds LINES-LEN l o) l o l (linesIn (decoded l .core))

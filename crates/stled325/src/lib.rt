@@ -8,11 +8,16 @@ use command::Decoded;
 use remote::Received;
 use units::Seconds;
 
+// How many bytes show and lines write.
+const DIGITS_LEN: usize = 5;
+
+const LINES_LEN: usize = 1;
+
 #[no_mangle]
 pub extern "C" fn stled325_power_up(image: &mut [u8]) -> u32
     ensures { λ r. ⌜ outcome r (now (image .exit)) [] ≡ powerUpCall (now (image .entry)) ⌝ }
 {
-    if image.len() != 64 {
+    if image.len() != image::IMAGE_LEN {
         return 1;
     }
     events::power_up(image);
@@ -116,7 +121,7 @@ pub extern "C" fn stled325_show(image: &[u8], digits: &mut [u8]) -> u32
     if !validity::is_valid(image) {
         return 1;
     }
-    if digits.len() != 5 {
+    if digits.len() != DIGITS_LEN {
         return 12;
     }
     events::show(image, digits);
@@ -130,7 +135,7 @@ pub extern "C" fn stled325_lines(image: &[u8], lines: &mut [u8]) -> u32
     if !validity::is_valid(image) {
         return 1;
     }
-    if lines.len() != 1 {
+    if lines.len() != LINES_LEN {
         return 12;
     }
     let l = image::load(image);

@@ -39,7 +39,7 @@ fn match_counts(registers: [u8; 16], n: Seconds) -> bool
     if registers::is_stopped(registers) {
         return false;
     }
-    if !(registers::afe(registers) & registers::abe(registers)) {
+    if !(registers::has_afe(registers) & registers::has_abe(registers)) {
         return false;
     }
     let clock = timekeeper::clock_of(registers);

@@ -1,8 +1,9 @@
 -- Two decimal digits in a byte, a nibble each (document 01, "Clock registers": BCD).
 use Prim.Native.Nat.{ℕ, _+_, _*_, _/_, _%_}
-use mathlib.Core.Bool.{Bool, _&&_}
+use mathlib.Core.Bool.{Bool}
 use mathlib.Core.List.{List, [], _∷_}
 use lib.Dec.{leb}
+use Rattle.common.specs.Tests.{conj}
 
 -- the number that the two digits write
 abbrev pub digits : ℕ → ℕ
@@ -19,4 +20,4 @@ decimalTests (b ∷ bs) = leb (b / 16) 9 ∷ leb (b % 16) 9 ∷ decimalTests bs
 
 -- of one byte
 abbrev pub decimal : ℕ → Bool
-decimal b = leb (b / 16) 9 && leb (b % 16) 9
+decimal b = conj (decimalTests (b ∷ []))

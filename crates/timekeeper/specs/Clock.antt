@@ -8,7 +8,7 @@ use Rattle.common.specs.Spell.{spell}
 use Rattle.calendar.specs.declared.Clock.{Clock}
 use Rattle.calendar.specs.Date.{leap, monthLength}
 use Rattle.calendar.specs.Clock.{fullYear}
-use Rattle.registers.specs.Names.{at, SECONDS, MINUTES, HOURS, WEEKDAY, DATE, MONTH, YEAR}
+use Rattle.registers.specs.Names.{at, RESERVED, SECONDS, MINUTES, HOURS, WEEKDAY, DATE, MONTH, YEAR, CALIBRATION}
 use Rattle.timekeeper.specs.Bcd.{digits, bcd, decimalTests}
 
 -- ---- Reading
@@ -69,7 +69,7 @@ underB7B6 flags b = flags / 64 * 64 + b % 64
 -- the registers with another calendar: flag bits and all registers but 01h..07h stay
 unfoldable pub withClock : List ℕ → Clock → List ℕ
 withClock rs c =
-    at rs 0x00
+    at rs RESERVED
     ∷ underB7 (at rs SECONDS) (bcd (c .second))
     ∷ bcd (c .minute)
     ∷ underB7B6 (at rs HOURS) (bcd (c .hour))
@@ -77,4 +77,4 @@ withClock rs c =
     ∷ bcd (c .date)
     ∷ (c .century % 4 * 64 + bcd (c .month) % 64)
     ∷ bcd (c .year)
-    ∷ spell 0x08 8 rs
+    ∷ spell CALIBRATION 8 rs

@@ -15,13 +15,29 @@ use registers::ALARM_MINUTE;
 use registers::ALARM_MONTH;
 use registers::ALARM_SECOND;
 use registers::ALARM_WEEKDAY;
+use registers::CALIBRATION;
 use registers::DATE;
 use registers::HOURS;
 use registers::MINUTES;
 use registers::MONTH;
+use registers::RESERVED;
 use registers::SECONDS;
+use registers::WATCHDOG;
 use registers::WEEKDAY;
 use registers::YEAR;
+
+// 0Eh, 0Dh, 0Ch and 0Bh b7, 0Bh b6, 0Ch b6: the second, minute, hour, date, month or weekday is not compared.
+const RPT1: u8 = 128;
+
+const RPT2: u8 = 128;
+
+const RPT3: u8 = 128;
+
+const RPT4: u8 = 128;
+
+const RPT5: u8 = 64;
+
+const RPT6: u8 = 64;
 
 // What a write to the registers leaves, and its refusal number.
 pub struct Committed {
@@ -143,7 +159,7 @@ pub fn with_clock(registers: [u8; 16], c: Clock) -> [u8; 16]
     let month = bcd_byte(c.month);
     let year = bcd_byte(c.year);
     [
-        registers[0x00],
+        registers[RESERVED],
         second,
         minute,
         hour,
@@ -151,14 +167,14 @@ pub fn with_clock(registers: [u8; 16], c: Clock) -> [u8; 16]
         date,
         (c.century % 4 * 64) as u8 + month % 64,
         year,
-        registers[0x08],
-        registers[0x09],
-        registers[0x0A],
-        registers[0x0B],
-        registers[0x0C],
-        registers[0x0D],
-        registers[0x0E],
-        registers[0x0F],
+        registers[CALIBRATION],
+        registers[WATCHDOG],
+        registers[ALARM_MONTH],
+        registers[ALARM_DATE],
+        registers[ALARM_HOUR],
+        registers[ALARM_MINUTE],
+        registers[ALARM_SECOND],
+        registers[ALARM_WEEKDAY],
     ]
 }
 
@@ -187,12 +203,12 @@ pub fn alarm_of(registers: [u8; 16]) -> Alarm
     let second = registers[ALARM_SECOND];
     let weekday = registers[ALARM_WEEKDAY];
     Alarm {
-        second: field(second / 128 % 2 == 1, second % 128),
-        minute: field(minute / 128 % 2 == 1, minute % 128),
-        hour: field(hour / 128 % 2 == 1, hour % 64),
-        date: field(date / 128 % 2 == 1, date % 64),
-        month: field(date / 64 % 2 == 1, month % 32),
-        weekday: field(hour / 64 % 2 == 1, weekday / 16 % 8),
+        second: field(second / RPT1 % 2 == 1, second % 128),
+        minute: field(minute / RPT2 % 2 == 1, minute % 128),
+        hour: field(hour / RPT3 % 2 == 1, hour % 64),
+        date: field(date / RPT4 % 2 == 1, date % 64),
+        month: field(date / RPT5 % 2 == 1, month % 32),
+        weekday: field(hour / RPT6 % 2 == 1, weekday / 16 % 8),
     }
 }
 

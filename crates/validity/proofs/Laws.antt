@@ -15,7 +15,7 @@ use Rattle.timekeeper.specs.Clock.{validCalendar}
 use Rattle.controller.specs.Sound.{Sound, SoundRtc, SoundSetup, SoundPower, SoundKeys, SoundRemote}
 use Rattle.panel.specs.declared.Panel.{Panel}
 use Rattle.image.specs.Layout as at
-use Rattle.image.specs.Layout.{SIZE, TAIL, byteAt, Bytes, wordAt}
+use Rattle.image.specs.Layout.{IMAGE-LEN, UNUSED, byteAt, Bytes, wordAt}
 use Rattle.image.specs.Image.{rtcIn, powerIn, setupIn, keysIn, remoteIn, coreIn, displayIn, decoded, setupByte, encoded}
 use Rattle.image.specs.Sound.{SoundDisplay, SoundPanel}
 use Rattle.image.proofs.Numbers.{pins-small}
@@ -48,8 +48,8 @@ module _ (l : List ℕ) (h : isValid l ≡ true) where
   range : (i : ℕ) → getD (rangeTests (decoded l)) i true ≡ true
   range = each (rangeTests (decoded l)) (state 1)
 
-  pub valid-length : length l ≡ SIZE
-  valid-length = eqb-true (length l) SIZE (test 0)
+  pub valid-length : length l ≡ IMAGE-LEN
+  valid-length = eqb-true (length l) IMAGE-LEN (test 0)
 
   module _ (small : Bytes l) where
     rtc-sound : SoundRtc (rtcIn l)
@@ -110,8 +110,8 @@ module _ (l : List ℕ) (h : isValid l ≡ true) where
 
     -- ---- A valid image is the image of its state
 
-    tail : spell TAIL 20 l ≡ replicate 20 0
-    tail = zeros (spell TAIL 20 l) (test 3)
+    tail : spell UNUSED 20 l ≡ replicate 20 0
+    tail = zeros (spell UNUSED 20 l) (test 3)
 
     pub encode-decode : encoded (decoded l) ≡ l
     encode-decode =

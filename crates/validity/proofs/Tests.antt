@@ -14,9 +14,9 @@ use Rattle.timekeeper.specs.Clock.{validCalendar}
 use Rattle.units.specs.declared.Sixteenths.{Sixteenths}
 use Rattle.controller.specs.declared.Core.{Core}
 use Rattle.controller.specs.Standby.{guardLoad}
-use Rattle.controller.specs.Sound.{knownProtocol}
+use Rattle.remote.specs.Frame.{isProtocol}
 use Rattle.panel.specs.declared.Panel.{Panel}
-use Rattle.image.specs.Layout.{SIZE}
+use Rattle.image.specs.Layout.{IMAGE-LEN}
 use Rattle.image.specs.Image.{registersIn, decoded}
 use Rattle.validity.specs.Valid.{unnamedTests, tailTests, rangeTests, guardWithin, guardStopped, watchdogWithin, addressZero, commandZero, stateTests, isValid}
 
@@ -27,10 +27,10 @@ module _ (c : Core) (load : Sixteenths) where
   pub watchdog-test : load ≡ watchdogLoad (at (c .rtc .registers) WATCHDOG) → leb (c .rtc .watchdog .0) (load .0) ≡ watchdogWithin c
   watchdog-test e = ap (λ (x : Sixteenths). leb (c .rtc .watchdog .0) (x .0)) e
 
-pub state-tests : (p : Panel) (r n g w : Bool) → r ≡ reservedClear (p .core .rtc .registers) → n ≡ conj (rangeTests p) → g ≡ guardWithin (p .core) → w ≡ watchdogWithin (p .core)
-    → conj (r ∷ n ∷ knownProtocol (p .core .setup .protocol) ∷ g ∷ guardStopped (p .core) ∷ w ∷ addressZero (p .core) ∷ commandZero (p .core) ∷ []) ≡ conj (stateTests p)
-state-tests p r n g w er en eg ew =
-    λ i. conj (er i ∷ en i ∷ knownProtocol (p .core .setup .protocol) ∷ eg i ∷ guardStopped (p .core) ∷ ew i ∷ addressZero (p .core) ∷ commandZero (p .core) ∷ [])
+pub state-tests : (p : Panel) (r n q g w : Bool) → r ≡ reservedClear (p .core .rtc .registers) → n ≡ conj (rangeTests p) → q ≡ isProtocol (p .core .setup .protocol) → g ≡ guardWithin (p .core) → w ≡ watchdogWithin (p .core)
+    → conj (r ∷ n ∷ q ∷ g ∷ guardStopped (p .core) ∷ w ∷ addressZero (p .core) ∷ commandZero (p .core) ∷ []) ≡ conj (stateTests p)
+state-tests p r n q g w er en eq eg ew =
+    λ i. conj (er i ∷ en i ∷ eq i ∷ eg i ∷ guardStopped (p .core) ∷ ew i ∷ addressZero (p .core) ∷ commandZero (p .core) ∷ [])
 
 -- ---- the image
 
@@ -39,21 +39,21 @@ module _ (l : List ℕ) where
   judged : Bool → Bool → Bool
   judged sized calendar = conj (sized ∷ calendar ∷ conj (unnamedTests l) ∷ conj (tailTests l) ∷ conj (stateTests (decoded l)) ∷ [])
 
-  pub not-sized : (length l ≡ SIZE → ⊥) → false ≡ isValid l
+  pub not-sized : (length l ≡ IMAGE-LEN → ⊥) → false ≡ isValid l
   unfolding isValid judged
-  not-sized n = sym (ap (λ (b : Bool). judged b (validCalendar (registersIn l))) (ne-eqb (length l) SIZE n))
+  not-sized n = sym (ap (λ (b : Bool). judged b (validCalendar (registersIn l))) (ne-eqb (length l) IMAGE-LEN n))
 
-  module _ (rs : List ℕ) (v : Bool) (sized : length l ≡ SIZE) (er : rs ≡ registersIn l) (ev : v ≡ validCalendar rs) where
+  module _ (rs : List ℕ) (v : Bool) (sized : length l ≡ IMAGE-LEN) (er : rs ≡ registersIn l) (ev : v ≡ validCalendar rs) where
     calendar-is : v ≡ validCalendar (registersIn l)
     calendar-is = ev ∙ ap validCalendar er
 
     pub no-calendar : not v ≡ true → false ≡ isValid l
     unfolding isValid judged
-    no-calendar h = λ i. judged (sym (eq-eqb (length l) SIZE sized) i) ((sym (not-true v h) ∙ calendar-is) i)
+    no-calendar h = λ i. judged (sym (eq-eqb (length l) IMAGE-LEN sized) i) ((sym (not-true v h) ∙ calendar-is) i)
 
     pub whole : not v ≡ false → (a : List ℕ) → a ≡ l → (u z : Bool) → u ≡ conj (unnamedTests a) → z ≡ conj (tailTests a) → (p : Panel) → p ≡ decoded a → (s : Bool) → s ≡ conj (stateTests p)
         → (u && z && s) ≡ isValid l
     unfolding isValid judged
     whole h a ea u z eu ez p ep s es =
         (λ i. (eu ∙ ap (λ (m : List ℕ). conj (unnamedTests m)) ea) i && (ez ∙ ap (λ (m : List ℕ). conj (tailTests m)) ea) i && (es ∙ ap (λ (q : Panel). conj (stateTests q)) (ep ∙ ap decoded ea)) i)
-        ∙ (λ i. judged (sym (eq-eqb (length l) SIZE sized) i) ((sym (not-false v h) ∙ calendar-is) i))
+        ∙ (λ i. judged (sym (eq-eqb (length l) IMAGE-LEN sized) i) ((sym (not-false v h) ∙ calendar-is) i))

@@ -12,9 +12,9 @@ use Rattle.registers.specs.Watchdog.{watchdogLoad}
 use Rattle.timekeeper.specs.Clock.{validCalendar}
 use Rattle.controller.specs.declared.Core.{Core}
 use Rattle.controller.specs.Standby.{guardLoad}
-use Rattle.controller.specs.Sound.{knownProtocol}
+use Rattle.remote.specs.Frame.{isProtocol}
 use Rattle.panel.specs.declared.Panel.{Panel}
-use Rattle.image.specs.Layout.{SIZE, FLAGS, PINS, CONFIGURATION, PROTOCOL, CONTROL, TAIL, byteAt}
+use Rattle.image.specs.Layout.{IMAGE-LEN, FLAGS, PINS, CONFIGURATION, SETUP, DISPLAY-CONTROL, UNUSED, byteAt}
 use Rattle.image.specs.Image.{registersIn, decoded}
 
 -- ---- Bits and bytes without a name
@@ -26,8 +26,8 @@ unnamedTests l =
     ∷ ltb (byteAt l PINS) 8
     ∷ ltb (byteAt l CONFIGURATION) 64
     ∷ eqb (byteAt l CONFIGURATION / 16 % 2) 0
-    ∷ ltb (byteAt l PROTOCOL) 128
-    ∷ ltb (byteAt l CONTROL) 32
+    ∷ ltb (byteAt l SETUP) 128
+    ∷ ltb (byteAt l DISPLAY-CONTROL) 32
     ∷ []
 
 abbrev pub zeroTests : List ℕ → List Bool
@@ -36,7 +36,7 @@ zeroTests (b ∷ bs) = eqb b 0 ∷ zeroTests bs
 
 -- the bytes from 44 to 63
 abbrev pub tailTests : List ℕ → List Bool
-tailTests l = zeroTests (spell TAIL 20 l)
+tailTests l = zeroTests (spell UNUSED 20 l)
 
 -- ---- The state
 
@@ -70,7 +70,7 @@ abbrev pub stateTests : Panel → List Bool
 stateTests p =
     reservedClear (p .core .rtc .registers)
     ∷ conj (rangeTests p)
-    ∷ knownProtocol (p .core .setup .protocol)
+    ∷ isProtocol (p .core .setup .protocol)
     ∷ guardWithin (p .core)
     ∷ guardStopped (p .core)
     ∷ watchdogWithin (p .core)
@@ -79,7 +79,7 @@ stateTests p =
     ∷ []
 
 abbrev pub validTests : List ℕ → List Bool
-validTests l = eqb (length l) SIZE ∷ validCalendar (registersIn l) ∷ conj (unnamedTests l) ∷ conj (tailTests l) ∷ conj (stateTests (decoded l)) ∷ []
+validTests l = eqb (length l) IMAGE-LEN ∷ validCalendar (registersIn l) ∷ conj (unnamedTests l) ∷ conj (tailTests l) ∷ conj (stateTests (decoded l)) ∷ []
 
 unfoldable pub isValid : List ℕ → Bool
 isValid l = conj (validTests l)

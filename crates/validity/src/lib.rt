@@ -4,38 +4,39 @@ ghost use Rattle.common.specs.Tests.{conj};
 ghost use Rattle.validity.specs.Valid.{unnamedTests, tailTests, rangeTests, guardWithin, watchdogWithin, stateTests, isValid};
 use controller::Core;
 use image::CONFIGURATION;
-use image::CONTROL;
+use image::DISPLAY_CONTROL;
 use image::FLAGS;
+use image::IMAGE_LEN;
 use image::PINS;
-use image::PROTOCOL;
-use image::SIZE;
+use image::SETUP;
+use image::UNUSED;
 use panel::Panel;
 use registers::WATCHDOG;
 
-// Whether the bytes from 44 on, which have no use, are 0.
+// Whether the bytes without a use, 44 to 63, are 0.
 fn tail_clear(image: [u8; 64]) -> bool
     ensures { λ r. ⌜ r ≡ conj (tailTests image) ⌝ }
 {
-    (image[44] == 0)
-        & (image[45] == 0)
-        & (image[46] == 0)
-        & (image[47] == 0)
-        & (image[48] == 0)
-        & (image[49] == 0)
-        & (image[50] == 0)
-        & (image[51] == 0)
-        & (image[52] == 0)
-        & (image[53] == 0)
-        & (image[54] == 0)
-        & (image[55] == 0)
-        & (image[56] == 0)
-        & (image[57] == 0)
-        & (image[58] == 0)
-        & (image[59] == 0)
-        & (image[60] == 0)
-        & (image[61] == 0)
-        & (image[62] == 0)
-        & (image[63] == 0)
+    (image[UNUSED] == 0)
+        & (image[UNUSED + 1] == 0)
+        & (image[UNUSED + 2] == 0)
+        & (image[UNUSED + 3] == 0)
+        & (image[UNUSED + 4] == 0)
+        & (image[UNUSED + 5] == 0)
+        & (image[UNUSED + 6] == 0)
+        & (image[UNUSED + 7] == 0)
+        & (image[UNUSED + 8] == 0)
+        & (image[UNUSED + 9] == 0)
+        & (image[UNUSED + 10] == 0)
+        & (image[UNUSED + 11] == 0)
+        & (image[UNUSED + 12] == 0)
+        & (image[UNUSED + 13] == 0)
+        & (image[UNUSED + 14] == 0)
+        & (image[UNUSED + 15] == 0)
+        & (image[UNUSED + 16] == 0)
+        & (image[UNUSED + 17] == 0)
+        & (image[UNUSED + 18] == 0)
+        & (image[UNUSED + 19] == 0)
 }
 
 // Whether the bits without a name are 0.
@@ -46,8 +47,8 @@ fn unnamed_clear(image: [u8; 64]) -> bool
         & (image[PINS] < 8)
         & (image[CONFIGURATION] < 64)
         & (image[CONFIGURATION] / 16 % 2 == 0)
-        & (image[PROTOCOL] < 128)
-        & (image[CONTROL] < 32)
+        & (image[SETUP] < 128)
+        & (image[DISPLAY_CONTROL] < 32)
 }
 
 // Whether the sixteenths, the remote key's fresh and the digits are in range.
@@ -88,11 +89,10 @@ fn is_sound(p: Panel) -> bool
     let core = p.core;
     let rtc = core.rtc;
     let registers = rtc.registers;
-    let protocol = core.setup.protocol;
     let remote = core.remote;
     registers::reserved_clear(registers)
         & in_ranges(p)
-        & ((protocol == 0) | (protocol == 2) | (protocol == 4))
+        & remote::is_protocol(core.setup.protocol)
         & guard_within(core)
         & (!core.power.stby | (core.power.guard.0 == 0))
         & watchdog_within(core)
@@ -104,7 +104,7 @@ fn is_sound(p: Panel) -> bool
 pub fn is_valid(image: &[u8]) -> bool
     ensures { λ r. ⌜ r ≡ isValid (now (image .entry)) ⌝ }
 {
-    if image.len() != SIZE {
+    if image.len() != IMAGE_LEN {
         return false;
     }
     if !timekeeper::valid(image::load_registers(image)) {

@@ -43,11 +43,11 @@ is-stopped-requires c κs = search needs
 returns : tie.Need-returns
 returns c = search (needs, stands)
 
-afe-requires : tie.Need-afe-requires
-afe-requires c κs = search needs
+has-afe-requires : tie.Need-has-afe-requires
+has-afe-requires c κs = search needs
 
-abe-requires : tie.Need-abe-requires
-abe-requires c κs = search needs
+has-abe-requires : tie.Need-has-abe-requires
+has-abe-requires c κs = search needs
 
 returns-2 : tie.Need-returns-2
 returns-2 c = search (needs, unarmed)
@@ -69,8 +69,8 @@ match-counts-spec =
     tie.close
     (tie.spec is-stopped-requires
     returns
-    afe-requires
-    abe-requires
+    has-afe-requires
+    has-abe-requires
     returns-2
     clock-of-requires
     alarm-of-requires

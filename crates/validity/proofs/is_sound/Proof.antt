@@ -10,6 +10,9 @@ reserved-clear-requires c κs = search needs
 in-ranges-requires : tie.Need-in-ranges-requires
 in-ranges-requires c κs = search needs
 
+is-protocol-requires : tie.Need-is-protocol-requires
+is-protocol-requires c κs = search needs
+
 guard-within-requires : tie.Need-guard-within-requires
 guard-within-requires c κs = search needs
 
@@ -25,6 +28,7 @@ is-sound-spec =
     (tie.spec
     reserved-clear-requires
     in-ranges-requires
+    is-protocol-requires
     guard-within-requires
     watchdog-within-requires
     returns)

@@ -7,7 +7,7 @@ use borrow.Author.Needs.{needs}
 use borrow.Author.Tests.{not-true, not-false}
 use Rattle.common.proofs.Choice.{on-true, on-false}
 use Rattle.controller.specs.declared.Core.{Core}
-use Rattle.controller.specs.State.{everyKeyHot}
+use Rattle.controller.specs.State.{allHot}
 use Rattle.controller.specs.Keys.{counted}
 use Rattle.controller.proofs.Core.count_presses.Statement.{statement}
 use Rattle.controller.proofs.Core.count_presses.Tie as tie
@@ -16,7 +16,7 @@ module _ (c : Core) (new : ℕ) where
   awake : not (c .power .stby) ≡ true → new ≡ counted c new
   awake h = on-false _ _ (not-true (c .power .stby) h)
 
-  module _ (h : not (c .power .stby) ≡ false) (b : Bool) (e : b ≡ everyKeyHot c) where
+  module _ (h : not (c .power .stby) ≡ false) (b : Bool) (e : b ≡ allHot c) where
     every : b ≡ true → new ≡ counted c new
     every t = on-true _ _ (sym e ∙ t) ∙ on-true _ _ (not-false (c .power .stby) h)
 

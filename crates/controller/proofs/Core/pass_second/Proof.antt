@@ -49,8 +49,8 @@ next-second-requires c κs = search needs
 with-clock-requires : tie.Need-with-clock-requires
 with-clock-requires c κs = search needs
 
-afe-requires : tie.Need-afe-requires
-afe-requires c κs = search needs
+has-afe-requires : tie.Need-has-afe-requires
+has-afe-requires c κs = search needs
 
 alarm-of-requires : tie.Need-alarm-of-requires
 alarm-of-requires c κs = search needs
@@ -73,7 +73,7 @@ pass-second-spec =
     (tie.spec clock-of-requires
     next-second-requires
     with-clock-requires
-    afe-requires
+    has-afe-requires
     alarm-of-requires
     match-second-requires
     raise-requires

@@ -7,7 +7,7 @@ use borrow.Author.Needs.{needs}
 use borrow.Author.Tests.{eq-eqb, ne-eqb}
 use Rattle.common.proofs.Choice.{on-true, on-false}
 use Rattle.controller.specs.declared.Core.{Core}
-use Rattle.controller.specs.State.{withPower, power, sixteenths, guardSleeps}
+use Rattle.controller.specs.State.{withPower, power, sixteenths, guardStandby}
 use Rattle.controller.specs.Standby.{standbyBegun}
 use Rattle.controller.specs.Tick.{guardTicked}
 use Rattle.controller.proofs.Core.tick_guard.Statement.{statement}
@@ -18,7 +18,7 @@ module _ (c : Core) where
   unfolding guardTicked
   not-running h = on-true _ _ (eq-eqb _ _ h)
 
-  module _ (h : c .power .guard .0 ≡ 0 → ⊥) (b : Bool) (e : b ≡ guardSleeps c) where
+  module _ (h : c .power .guard .0 ≡ 0 → ⊥) (b : Bool) (e : b ≡ guardStandby c) where
     ends : (r : Core) → (eqb (c .power .guard .0) 1 && b) ≡ true → r ≡ standbyBegun c → r ≡ guardTicked c
     unfolding guardTicked
     ends r t f = f ∙ on-true _ _ ((λ i. eqb (c .power .guard .0) 1 && sym e i) ∙ t) ∙ on-false _ _ (ne-eqb _ _ h)

@@ -50,8 +50,8 @@ returns-2 c = search (needs, stands)
 sub-t8 : tie.Need-sub-t8
 sub-t8 c = search needs
 
-wdfen-requires : tie.Need-wdfen-requires
-wdfen-requires c κs = search needs
+has-wdfen-requires : tie.Need-has-wdfen-requires
+has-wdfen-requires c κs = search needs
 
 raise-requires : tie.Need-raise-requires
 raise-requires c κs = search needs
@@ -69,7 +69,7 @@ tick-watchdog-spec =
     is-stopped-requires
     returns-2
     sub-t8
-    wdfen-requires
+    has-wdfen-requires
     raise-requires
     returns-3
     returns-4)
