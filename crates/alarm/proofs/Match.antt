@@ -85,7 +85,7 @@ fit-in f lo hi x l h e = by (f .any) e
         let q : f .value ≡ x = eqb-true (f .value) x p in
         and-both (leb lo (f .value)) (leb (f .value) hi) (le-leb lo (f .value) (omega arith)) (le-leb (f .value) hi (omega arith))
 
-pub match-possible : (a : Alarm) (c : Clock) → Valid c → matches a c ≡ true → possible a ≡ true
+match-possible : (a : Alarm) (c : Clock) → Valid c → matches a c ≡ true → possible a ≡ true
 unfolding matches possible
 match-possible a c v e =
     let f = each (fits (a .second) (c .second) ∷ fits (a .minute) (c .minute) ∷ fits (a .hour) (c .hour) ∷ fits (a .date) (c .date) ∷ fits (a .month) (c .month) ∷ fits (a .weekday) (c .weekday) ∷ []) e in

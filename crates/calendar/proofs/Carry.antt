@@ -116,7 +116,7 @@ time-in h m s false false false true p q r t u = refl
 time-in h m s false false false false p q r t u = refl
 
 -- the carry of a day does not look at the time
-pub next-day-time : (c : Clock) (h m s : ℕ) → nextDay (withTime c h m s) ≡ withTime (nextDay c) h m s
+next-day-time : (c : Clock) (h m s : ℕ) → nextDay (withTime c h m s) ≡ withTime (nextDay c) h m s
 unfolding nextDay
 next-day-time c h m s =
     time-in h m s (ltb (c .date) (monthLength (leap (fullYear c)) (c .month))) (ltb (c .month) 12) (ltb (c .year) 99) (ltb (c .century) 3)

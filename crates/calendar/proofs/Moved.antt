@@ -25,11 +25,11 @@ same a b p q r s t u v w =
 pub time-below : (c : Clock) → Valid c → timeOf c < 86_400
 time-below c v = omega (arith, v .hour, v .minute, v .second)
 
-pub days-below : (c : Clock) → Valid c → days c < calendarDays
+days-below : (c : Clock) → Valid c → days c < calendarDays
 unfolding days
 days-below c v = below (fullYear c) (c .month) (c .date) (v .dated)
 
-pub count-below : (c : Clock) → Valid c → count c < cycle
+count-below : (c : Clock) → Valid c → count c < cycle
 unfolding count
 count-below c v = omega (arith, days-below c v, time-below c v)
 
@@ -55,7 +55,7 @@ module _ (k w : ℕ) (h : k < cycle) where
   dated-at : Dated (fullYear (clockAt k w)) (monthAt (k / 86_400)) (dateAt (k / 86_400))
   dated-at = rw year-is (date-at (k / 86_400) (omega arith))
 
-  pub valid-at : 1 ≤ w → w ≤ 7 → Valid (clockAt k w)
+  valid-at : 1 ≤ w → w ≤ 7 → Valid (clockAt k w)
   unfolding clockAt
   valid-at l m =
       record {
@@ -90,7 +90,7 @@ at-count c v =
 
 -- ---- midnights and the weekday
 
-pub weekday-on : (w m : ℕ) → (1 ≤ weekdayOn w m) × (weekdayOn w m ≤ 7)
+weekday-on : (w m : ℕ) → (1 ≤ weekdayOn w m) × (weekdayOn w m ≤ 7)
 weekday-on w m = omega arith
 
 -- the difference of quotients counts the multiples of 86,400 from k + 1 to k + n
@@ -148,7 +148,7 @@ moved-moved c m n =
 
 -- ---- within a day
 
-pub time-at : (c : Clock) (t : ℕ) → timeOf (atTime c t) ≡ t
+time-at : (c : Clock) (t : ℕ) → timeOf (atTime c t) ≡ t
 time-at c t = omega arith
 
 pub time-valid : (c : Clock) (t : ℕ) → Valid c → t < 86_400 → Valid (atTime c t)

@@ -22,7 +22,7 @@ use Rattle.panel.specs.declared.Panel.{Panel}
 use Rattle.image.specs.Layout.{Bytes}
 use Rattle.image.specs.Image.{registersIn, decoded}
 use Rattle.stled325.specs.Calls.{high, keyedBy}
-use Rattle.demands.specs.Event.{Event, powerUp, tick, sample, frame, ready, wakeUp, command, show, lines, supplyReturn, Given, panelAfter, after, Valid}
+use Rattle.demands.specs.Event.{Event, powerUp, tick, sample, frame, ready, wakeUp, command, show, lines, supplyReturn, Given, panelAfter, after, ValidImage}
 use Rattle.demands.specs.Clock.{writesClock, changesClock, Step, afterAll, Quiet}
 use Rattle.demands.proofs.Refusals.{refused-untouched}
 use Rattle.demands.proofs.Commands.{write-byte, registers-executed}
@@ -37,7 +37,7 @@ rtc-keyedBy c NoKey = refl
 abbrev registersOf : Rtc → List ℕ
 registersOf r = r .registers
 
-module _ {l : List ℕ} (v : Valid l) where
+module _ {l : List ℕ} (v : ValidImage l) where
   abbrev c : Core
   c = decoded l .core
 
@@ -68,16 +68,16 @@ clock-kept l small e g o n =
 
     kept : after e l o .number ≡ 0 → writesClock e c ≡ false → registersIn (after e l o .image) ≡ registersIn l
     kept a w =
-        ⊎-elim (λ (p : e ≡ powerUp). absurd (true≢false (sym (ap (λ (x : Event). writesClock x c) p) ∙ w))) (λ (v : Valid l). kept-of-valid v e g o a w)
+        ⊎-elim (λ (p : e ≡ powerUp). absurd (true≢false (sym (ap (λ (x : Event). writesClock x c) p) ∙ w))) (λ (v : ValidImage l). kept-of-valid v e g o a w)
         (power-up-or-valid l small e o a)
 
 -- ---- Events one after the other
 
-pub all-valid : (xs : List Step) {l : List ℕ} → Valid l → Quiet xs l → Valid (afterAll xs l)
+pub all-valid : (xs : List Step) {l : List ℕ} → ValidImage l → Quiet xs l → ValidImage (afterAll xs l)
 all-valid [] v q = v
 all-valid (x ∷ xs) v q = all-valid xs (stays-valid v (x .event) (q .0) (x .output)) (q .1 .1)
 
-pub all-kept : (xs : List Step) {l : List ℕ} → Valid l → Quiet xs l → registersIn (afterAll xs l) ≡ registersIn l
+pub all-kept : (xs : List Step) {l : List ℕ} → ValidImage l → Quiet xs l → registersIn (afterAll xs l) ≡ registersIn l
 all-kept [] v q = refl
 all-kept (x ∷ xs) {l} v q =
     all-kept xs (stays-valid v (x .event) (q .0) (x .output)) (q .1 .1) ∙ clock-kept l (v .bytes) (x .event) (q .0) (x .output) (q .1 .0)

@@ -42,7 +42,7 @@ none-below n (g ∷ gs) r j h =
     let a = next-above n g gs r in
     other-number j g gs (λ e. omega arith) ∙ none-below (g .number) gs (rest-rises n g gs r) j (omega arith)
 
-pub first-least : (n : ℕ) (gs : List Ground) → rising n gs ≡ true → (k : ℕ) → (k ≡ 0 → ⊥) → firstGround gs ≡ k → First k gs
+first-least : (n : ℕ) (gs : List Ground) → rising n gs ≡ true → (k : ℕ) → (k ≡ 0 → ⊥) → firstGround gs ≡ k → First k gs
 first-least n [] r k z e = absurd (z (sym e))
 first-least n (g ∷ gs) r k z e = by-cases (First k (g ∷ gs)) (g .holds) holding (passed (first-least (g .number) gs (rest-rises n g gs r) k z))
   where
@@ -59,7 +59,7 @@ first-least n (g ∷ gs) r k z e = by-cases (First k (g ∷ gs)) (g .holds) hold
         let rest = from (on-false _ _ f ∙ e) in
         record { holds = not-holding k g gs f ∙ rest .holds; none-earlier = λ j h. not-holding j g gs f ∙ rest .none-earlier j h }
 
-pub least-first : (n : ℕ) (gs : List Ground) → rising n gs ≡ true → (k : ℕ) → First k gs → firstGround gs ≡ k
+least-first : (n : ℕ) (gs : List Ground) → rising n gs ≡ true → (k : ℕ) → First k gs → firstGround gs ≡ k
 least-first n [] r k f = absurd (false≢true (f .holds))
 least-first n (g ∷ gs) r k f = by-cases (firstGround (g ∷ gs) ≡ k) (g .holds) holding (passed (least-first (g .number) gs (rest-rises n g gs r) k))
   where

@@ -24,7 +24,7 @@ use Rattle.image.specs.Image.{encoded}
 use Rattle.validity.specs.Valid.{isValid}
 use Rattle.supply.proofs.Sound.{sound-powered}
 use Rattle.stled325.specs.Outcome.{decided}
-use Rattle.demands.specs.Event.{tick, sample, ready, Given, after, Valid, stby}
+use Rattle.demands.specs.Event.{tick, sample, ready, Given, after, ValidImage, stby}
 use Rattle.demands.specs.Clock.{Step, afterAll, Quiet}
 use Rattle.demands.proofs.Valid.{sound-valid}
 use Rattle.demands.proofs.ReadBack.{write, read, read-back}
@@ -42,7 +42,7 @@ set = after (write 1 time) fresh [] .image
 abbrev steps : List Step
 steps = record { event = tick; output = [] } ∷ record { event = sample 1; output = [] } ∷ record { event = ready 1; output = [] } ∷ []
 
-pub fresh-valid : Valid fresh
+pub fresh-valid : ValidImage fresh
 fresh-valid = sound-valid sound-powered
 
 pub time-given : Given (write 1 time)

@@ -21,7 +21,7 @@ use Rattle.effects.specs.Write.{registersWritten}
 use Rattle.output.specs.Output.{answered}
 use Rattle.panel.specs.declared.Panel.{Panel}
 use Rattle.image.specs.Image.{registersIn}
-use Rattle.demands.specs.Event.{Event, command, Given, after, Valid, stby}
+use Rattle.demands.specs.Event.{Event, command, Given, after, ValidImage, stby}
 use Rattle.demands.specs.Clock.{Step, afterAll, Quiet}
 use Rattle.demands.proofs.Refusals.{accepted-leaves, grounds-exact}
 use Rattle.demands.proofs.Valid.{command-holds, accepted-panel, stays-valid}
@@ -55,8 +55,8 @@ write a bytes = command (WRITE-REGISTERS ∷ a ∷ bytes)
 abbrev pub read : ℕ → List ℕ → Event
 read a surplus = command (READ-REGISTERS ∷ a ∷ surplus)
 
-module _ {l : List ℕ} (v : Valid l) (a : ℕ) (bytes : List ℕ) (g : Given (write a bytes)) (o : List ℕ) (w : after (write a bytes) l o .number ≡ 0) where
-  pub write-registers : registersIn (after (write a bytes) l o .image) ≡ written (registersIn l) a bytes
+module _ {l : List ℕ} (v : ValidImage l) (a : ℕ) (bytes : List ℕ) (g : Given (write a bytes)) (o : List ℕ) (w : after (write a bytes) l o .number ≡ 0) where
+  write-registers : registersIn (after (write a bytes) l o .image) ≡ written (registersIn l) a bytes
   unfolding commandBy registersWritten
   write-registers = ap (λ (p : Panel). p .core .rtc .registers) (accepted-panel v (write a bytes) g o w)
 
@@ -64,9 +64,9 @@ module _ {l : List ℕ} (v : Valid l) (a : ℕ) (bytes : List ℕ) (g : Given (w
   unfolding commandBy
   write-most = command-holds (WRITE-REGISTERS ∷ a ∷ bytes) l o w .0 .most
 
-module _ {l : List ℕ} (v : Valid l) (low : stby l ≡ false) (a : ℕ) (most : a ≤ 15) (surplus o : List ℕ) where
+module _ {l : List ℕ} (v : ValidImage l) (low : stby l ≡ false) (a : ℕ) (most : a ≤ 15) (surplus o : List ℕ) where
   -- with STBY low 70h is accepted, whatever the room
-  pub read-accepted : after (read a surplus) l o .number ≡ 0
+  read-accepted : after (read a surplus) l o .number ≡ 0
   unfolding groundsBy commandBy bytesNeeded roomNeeded
   read-accepted =
       grounds-exact (read a surplus) l o .accepted
@@ -81,18 +81,18 @@ module _ {l : List ℕ} (v : Valid l) (low : stby l ≡ false) (a : ℕ) (most :
       far : (ltb a 0 || ltb 15 a) ≡ false
       far = λ i. le-ltb a 0 (omega arith) i || le-ltb 15 a most i
 
-  pub read-replies : after (read a surplus) l o .output ≡ answered (drop a (registersIn l)) (length o)
+  read-replies : after (read a surplus) l o .output ≡ answered (drop a (registersIn l)) (length o)
   unfolding commandBy
   read-replies = accepted-leaves (read a surplus) l o read-accepted .1
 
 -- ---- READ BACK: after an accepted 50h, and any events that leave the clock alone, with STBY low
 
-module _ {l : List ℕ} (v : Valid l) (a : ℕ) (bytes : List ℕ) (g : Given (write a bytes)) (o : List ℕ) (w : after (write a bytes) l o .number ≡ 0)
+module _ {l : List ℕ} (v : ValidImage l) (a : ℕ) (bytes : List ℕ) (g : Given (write a bytes)) (o : List ℕ) (w : after (write a bytes) l o .number ≡ 0)
     (xs : List Step) (q : Quiet xs (after (write a bytes) l o .image)) (low : stby (afterAll xs (after (write a bytes) l o .image)) ≡ false) where
   abbrev then : List ℕ
   then = afterAll xs (after (write a bytes) l o .image)
 
-  still-valid : Valid then
+  still-valid : ValidImage then
   still-valid = all-valid xs (stays-valid v (write a bytes) g o) q
 
   still-written : registersIn then ≡ written (registersIn l) a bytes

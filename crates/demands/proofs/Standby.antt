@@ -20,7 +20,7 @@ use Rattle.panel.specs.declared.Panel.{Panel}
 use Rattle.image.specs.Layout.{Bytes}
 use Rattle.image.specs.Image.{decoded}
 use Rattle.stled325.specs.Calls.{high, isNoKey, keyedBy}
-use Rattle.demands.specs.Event.{Event, powerUp, tick, sample, frame, ready, wakeUp, command, show, lines, supplyReturn, Given, panelAfter, after, Valid, stby}
+use Rattle.demands.specs.Event.{Event, powerUp, tick, sample, frame, ready, wakeUp, command, show, lines, supplyReturn, Given, panelAfter, after, ValidImage, stby}
 use Rattle.demands.specs.Exact.{Exactly}
 use Rattle.demands.specs.Standby.{begins, ends}
 use Rattle.demands.proofs.Refusals.{refused-untouched, grounds-exact}
@@ -71,7 +71,7 @@ module _ (l : List ℕ) where
   after-each lines o a = same (stby l)
   after-each (supplyReturn n) o a = lowered (stby l)
 
-  exact-of-valid : Valid l → (e : Event) → Given e → (o : List ℕ) → after e l o .number ≡ 0 → stby (after e l o .image) ≡ cond (stby l) (not (ends e c)) (begins e c)
+  exact-of-valid : ValidImage l → (e : Event) → Given e → (o : List ℕ) → after e l o .number ≡ 0 → stby (after e l o .image) ≡ cond (stby l) (not (ends e c)) (begins e c)
   exact-of-valid v e g o a = ap stbyOf (accepted-panel v e g o a) ∙ after-each e o a
 
   module _ (small : Bytes l) (e : Event) (g : Given e) (o : List ℕ) where
@@ -79,7 +79,7 @@ module _ (l : List ℕ) where
 
     pub standby-exact : after e l o .number ≡ 0 → stby (after e l o .image) ≡ cond (stby l) (not (ends e c)) (begins e c)
     standby-exact a =
-        ⊎-elim (λ (p : e ≡ powerUp). subst Stands (sym p) (λ z. ap stbyOf (powered-panel l o z) ∙ lowered (stby l)) a) (λ (v : Valid l). exact-of-valid v e g o a)
+        ⊎-elim (λ (p : e ≡ powerUp). subst Stands (sym p) (λ z. ap stbyOf (powered-panel l o z) ∙ lowered (stby l)) a) (λ (v : ValidImage l). exact-of-valid v e g o a)
         (power-up-or-valid l small e o a)
       where
         Stands : Event → Type 0

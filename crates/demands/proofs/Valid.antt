@@ -33,25 +33,25 @@ use Rattle.validity.specs.Valid.{isValid}
 use Rattle.validity.proofs.Laws.{sound, encode-decode, valid-encoded}
 use Rattle.supply.proofs.Sound.{sound-powered, sound-returned}
 use Rattle.stled325.specs.Calls.{high, keyedBy}
-use Rattle.demands.specs.Event.{Event, powerUp, tick, sample, frame, ready, wakeUp, command, show, lines, supplyReturn, Given, panelAfter, imageAfter, after, Valid}
+use Rattle.demands.specs.Event.{Event, powerUp, tick, sample, frame, ready, wakeUp, command, show, lines, supplyReturn, Given, panelAfter, imageAfter, after, ValidImage}
 use Rattle.demands.proofs.Refusals.{refused-untouched, accepted-leaves, grounds-exact}
 use Rattle.demands.proofs.SoundCommands.{sound-executed}
 
 -- ---- Valid images and sound panels
 
-pub valid-sound : {l : List ℕ} → Valid l → SoundPanel (decoded l)
+valid-sound : {l : List ℕ} → ValidImage l → SoundPanel (decoded l)
 valid-sound {l} v = sound l (v .valid) (v .bytes)
 
-pub sound-valid : {p : Panel} → SoundPanel p → Valid (encoded p)
+pub sound-valid : {p : Panel} → SoundPanel p → ValidImage (encoded p)
 sound-valid {p} s = record { bytes = encoded-bytes p s; valid = valid-encoded p s }
 
 -- ---- An accepted event is power-up, or its image was valid
 
 module _ (l : List ℕ) (small : Bytes l) where
-  was-valid : not (isValid l) ≡ false → Valid l
+  was-valid : not (isValid l) ≡ false → ValidImage l
   was-valid n = record { bytes = small; valid = not-false (isValid l) n }
 
-  pub power-up-or-valid : (e : Event) (o : List ℕ) → after e l o .number ≡ 0 → (e ≡ powerUp) ⊎ Valid l
+  pub power-up-or-valid : (e : Event) (o : List ℕ) → after e l o .number ≡ 0 → (e ≡ powerUp) ⊎ ValidImage l
   power-up-or-valid powerUp o a = inl refl
   power-up-or-valid tick o a = inr (was-valid (grounds-exact tick l o .groundless a .0))
   power-up-or-valid (sample n) o a = inr (was-valid (grounds-exact (sample n) l o .groundless a .0))
@@ -89,7 +89,7 @@ module _ (s l o : List ℕ) (a : after (command s) l o .number ≡ 0) where
   pub command-holds : Holds s (length o) (commandOf s)
   command-holds = none-holds s (decoded l .core .power .stby) (length o) (none-left table last none)
 
-  pub command-writes : writesNoCalendar (decoded l .core) (commandOf s) s ≡ false
+  command-writes : writesNoCalendar (decoded l .core) (commandOf s) s ≡ false
   command-writes = none-right table last none .0
 
 -- ---- Sound panels
@@ -98,7 +98,7 @@ sound-keyedBy : {c : Core} → Sound 16 c → (r : Received) → Addressed r →
 sound-keyedBy {c} h (Key a k) u = subst (λ (x : ℕ). Sound 16 (keyed c x k)) (sym (eqb-true a 0 (u .is-addressed))) (sound-keyed h k (u .command))
 sound-keyedBy h NoKey u = h
 
-module _ {l : List ℕ} (v : Valid l) where
+module _ {l : List ℕ} (v : ValidImage l) where
   abbrev h : SoundPanel (decoded l)
   h = valid-sound v
 
@@ -106,7 +106,7 @@ module _ {l : List ℕ} (v : Valid l) where
   on-core c s = record { core = s; display = h .display }
 
   -- the panel after an accepted event is sound
-  pub sound-after : (e : Event) → Given e → (o : List ℕ) → after e l o .number ≡ 0 → SoundPanel (panelAfter e (decoded l))
+  sound-after : (e : Event) → Given e → (o : List ℕ) → after e l o .number ≡ 0 → SoundPanel (panelAfter e (decoded l))
   sound-after powerUp g o a = sound-powered
   sound-after tick g o a = on-core _ (sound-ticked (h .core))
   sound-after (sample n) g o a = on-core _ (sound-sampled (h .core) n g)
@@ -120,7 +120,7 @@ module _ {l : List ℕ} (v : Valid l) where
 
   -- ---- The image of a valid image's event is that of the panel after it
 
-  pub image-after : (e : Event) → imageAfter e l ≡ encoded (panelAfter e (decoded l))
+  image-after : (e : Event) → imageAfter e l ≡ encoded (panelAfter e (decoded l))
   image-after powerUp = refl
   image-after tick = refl
   image-after (sample n) = refl
@@ -140,22 +140,22 @@ module _ {l : List ℕ} (v : Valid l) where
     pub accepted-panel : decoded (after e l o .image) ≡ panelAfter e (decoded l)
     accepted-panel = ap decoded accepted-image ∙ decode-encode (panelAfter e (decoded l)) (sound-after e g o a)
 
-    accepted-valid : Valid (after e l o .image)
-    accepted-valid = subst Valid (sym accepted-image) (sound-valid (sound-after e g o a))
+    accepted-valid : ValidImage (after e l o .image)
+    accepted-valid = subst ValidImage (sym accepted-image) (sound-valid (sound-after e g o a))
 
   -- ---- A VALID IMAGE STAYS VALID, whatever happens
 
-  pub stays-valid : (e : Event) → Given e → (o : List ℕ) → Valid (after e l o .image)
+  pub stays-valid : (e : Event) → Given e → (o : List ℕ) → ValidImage (after e l o .image)
   stays-valid e g o =
-      by-cases (Valid (after e l o .image)) (eqb (after e l o .number) 0) (λ z. accepted-valid e g o (eqb-true _ 0 z))
-      (λ z. subst Valid (sym (refused-untouched e l o (eqb-false _ 0 z) .0)) v)
+      by-cases (ValidImage (after e l o .image)) (eqb (after e l o .number) 0) (λ z. accepted-valid e g o (eqb-true _ 0 z))
+      (λ z. subst ValidImage (sym (refused-untouched e l o (eqb-false _ 0 z) .0)) v)
 
 -- ---- POWER-UP makes one of any 64 bytes
 
 pub powered-panel : (l o : List ℕ) → after powerUp l o .number ≡ 0 → decoded (after powerUp l o .image) ≡ panelPoweredUp
 powered-panel l o a = ap decoded (accepted-leaves powerUp l o a .0) ∙ decode-encode panelPoweredUp sound-powered
 
-pub power-up-valid : (l o : List ℕ) → length l ≡ 64 → (after powerUp l o .number ≡ 0) × Valid (after powerUp l o .image)
+pub power-up-valid : (l o : List ℕ) → length l ≡ 64 → (after powerUp l o .number ≡ 0) × ValidImage (after powerUp l o .image)
 power-up-valid l o n =
     let a = grounds-exact powerUp l o .accepted ((λ i. not (eq-eqb (length l) 64 n i)), tt) in
-    (a, subst Valid (sym (accepted-leaves powerUp l o a .0)) (sound-valid sound-powered))
+    (a, subst ValidImage (sym (accepted-leaves powerUp l o a .0)) (sound-valid sound-powered))

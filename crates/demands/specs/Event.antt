@@ -112,7 +112,7 @@ after e l o = decided (groundsOf e l o) l o (imageAfter e l) (replyAfter e l o)
 -- ---- Images
 
 -- an image of bytes that is valid
-pub record Valid (l : List ℕ) : Type 0 where
+pub record ValidImage (l : List ℕ) : Type 0 where
   pub bytes : Bytes l
   pub valid : isValid l ≡ true
 

@@ -33,7 +33,7 @@ module _ (rs : List ℕ) (configuration : ℕ) (stby : Bool) (d : Display) where
   shown-length = refl
 
   -- the content stays within the digits in use
-  pub content-fits : length (content rs configuration stby d) ≤ d .digits
+  content-fits : length (content rs configuration stby d) ≤ d .digits
   unfolding content
   content-fits =
       of-cond Fits (dark configuration stby (d .control)) _ _ (λ e. omega arith)

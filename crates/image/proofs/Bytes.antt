@@ -7,7 +7,7 @@ use lib.ListN.{length, getD, replicate}
 use Rattle.common.specs.Spell.{spell}
 use Rattle.common.proofs.Each.{Each, each-at, done, _also_}
 use Rattle.panel.specs.declared.Panel.{Panel}
-use Rattle.image.specs.Layout.{IMAGE-LEN, byteAt, low, high, wordBytes}
+use Rattle.image.specs.Layout.{IMAGE-LEN, byteAt, lowByte, highByte, wordBytes}
 use Rattle.image.specs.Image.{encoded}
 use Rattle.image.specs.Sound.{SoundPanel}
 use Rattle.image.proofs.Numbers.{pins-small}
@@ -37,8 +37,8 @@ zeros (suc n) = let z : 0 < 256 = omega arith in z also zeros n
 
 word : (n : ℕ) → Each Byte (wordBytes n)
 word n =
-    let l : low n < 256 = omega arith in
-    let h : high n < 256 = omega arith in
+    let l : lowByte n < 256 = omega arith in
+    let h : highByte n < 256 = omega arith in
     l also h also done
 
 module _ (p : Panel) (s : SoundPanel p) where

@@ -18,7 +18,7 @@ use Rattle.controller.specs.Sound.{Sound}
 use Rattle.controller.specs.State.{rtc, power, keys, sixteenths}
 use Rattle.panel.specs.declared.Panel.{Panel}
 use Rattle.image.specs.Layout as at
-use Rattle.image.specs.Layout.{IMAGE-LEN, byteAt, Bytes, wordAt, low, high}
+use Rattle.image.specs.Layout.{IMAGE-LEN, byteAt, Bytes, wordAt, lowByte, highByte}
 use Rattle.image.specs.Image.{rtcIn, powerIn, setupIn, keysIn, displayIn, decoded, pinsByte, statusBytes, wordsOf, encoded}
 use Rattle.image.specs.Sound.{SoundPanel}
 use Rattle.image.proofs.Numbers.{low-back, high-back, word-back, setup-back, protocol-back, value-back, pins-back, bits-back, byte-back}
@@ -34,10 +34,10 @@ pub record Whole (l : List ℕ) : Type 0 where
   pub zeros : spell at.UNUSED 20 l ≡ replicate 20 0
 
 module _ (l : List ℕ) (w : Whole l) where
-  low-at : (i : ℕ) → low (wordAt l i) ≡ byteAt l i
+  low-at : (i : ℕ) → lowByte (wordAt l i) ≡ byteAt l i
   low-at i = low-back (byteAt l i) (byteAt l (i + 1)) (w .bytes i)
 
-  high-at : (i : ℕ) → high (wordAt l i) ≡ byteAt l (i + 1)
+  high-at : (i : ℕ) → highByte (wordAt l i) ≡ byteAt l (i + 1)
   high-at i = high-back (byteAt l i) (byteAt l (i + 1)) (w .bytes i) (w .bytes (i + 1))
 
   status-back : statusBytes (decoded l .core) (pinsByte (decoded l .core .power)) ≡ spell 16 6 l

@@ -5,20 +5,20 @@ use mathlib.Core.Path.{_≡_, refl, _∙_}
 use mathlib.Core.Bool.{Bool, true, false, cond}
 use lib.Dec.{eqb, lit<}
 use Rattle.common.specs.Bits.{bitSet}
-use Rattle.image.specs.Layout.{low, high, READY, WAKE-UP, STBY}
+use Rattle.image.specs.Layout.{lowByte, highByte, READY, WAKE-UP, STBY}
 
 -- ---- One byte and two
 
-pub byte-back : (a : ℕ) → a < 256 → low a ≡ a
+pub byte-back : (a : ℕ) → a < 256 → lowByte a ≡ a
 byte-back a h = omega arith
 
-pub low-back : (a b : ℕ) → a < 256 → low (a + 256 * b) ≡ a
+pub low-back : (a b : ℕ) → a < 256 → lowByte (a + 256 * b) ≡ a
 low-back a b h = omega arith
 
-pub high-back : (a b : ℕ) → a < 256 → b < 256 → high (a + 256 * b) ≡ b
+pub high-back : (a b : ℕ) → a < 256 → b < 256 → highByte (a + 256 * b) ≡ b
 high-back a b h k = omega arith
 
-pub word-back : (n : ℕ) → n < 65_536 → low n + 256 * high n ≡ n
+pub word-back : (n : ℕ) → n < 65_536 → lowByte n + 256 * highByte n ≡ n
 word-back n h = omega arith
 
 -- ---- Protocol and guard value

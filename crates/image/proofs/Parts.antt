@@ -10,7 +10,7 @@ use Rattle.controller.specs.State.{rtc, power, keys, sixteenths}
 use Rattle.panel.specs.declared.Panel.{Panel}
 use Rattle.image.specs.Layout as at
 use Rattle.image.specs.Layout.{byteAt, wordAt, READY, WAKE-UP, STBY}
-use Rattle.image.specs.Image.{registersIn, rtcIn, powerIn, setupIn, keysIn, remoteIn, coreIn, displayIn, decoded, pinsByte, fieldBytes, laidOut, encoded}
+use Rattle.image.specs.Image.{registersIn, rtcIn, powerIn, setupIn, keysIn, remoteIn, coreIn, displayIn, decoded, pinsByte, stateBytes, laidOut, encoded}
 
 module _ (l : List ℕ) where
   pub keys-in : (m s a t : ℕ) → m ≡ wordAt l at.HOT-KEYS → s ≡ wordAt l at.LAST-SAMPLE → a ≡ wordAt l at.ACCEPTED-KEYS → t ≡ wordAt l at.KEY-STORE → keys m s a t ≡ keysIn l
@@ -28,5 +28,5 @@ module _ (l : List ℕ) where
   pub panel-in : (p : Panel) → p .core ≡ coreIn l → p .display ≡ displayIn l → p ≡ decoded l
   panel-in p ec ed = λ i. record { core = ec i; display = ed i }
 
-pub image-of : (p : Panel) (pins : ℕ) (fields l : List ℕ) → pins ≡ pinsByte (p .core .power) → fields ≡ fieldBytes p pins → l ≡ laidOut (p .core .rtc .registers) fields → l ≡ encoded p
-image-of p pins fields l en ef e = e ∙ ap (laidOut (p .core .rtc .registers)) (ef ∙ ap (fieldBytes p) en)
+pub image-of : (p : Panel) (pins : ℕ) (fields l : List ℕ) → pins ≡ pinsByte (p .core .power) → fields ≡ stateBytes p pins → l ≡ laidOut (p .core .rtc .registers) fields → l ≡ encoded p
+image-of p pins fields l en ef e = e ∙ ap (laidOut (p .core .rtc .registers)) (ef ∙ ap (stateBytes p) en)

@@ -15,7 +15,7 @@ use Rattle.controller.specs.State.{rtc, power, keys, remote, sixteenths}
 use Rattle.display.specs.declared.Display.{Display}
 use Rattle.panel.specs.declared.Panel.{Panel}
 use Rattle.image.specs.Layout as at
-use Rattle.image.specs.Layout.{byteAt, wordAt, low, wordBytes, READY, WAKE-UP, STBY}
+use Rattle.image.specs.Layout.{byteAt, wordAt, lowByte, wordBytes, READY, WAKE-UP, STBY}
 
 -- ---- The state in an image
 
@@ -75,7 +75,7 @@ setupByte s = 16 * (s .protocol % 8) + s .guardvalue .0 % 16
 -- bytes 16 to 21, the pins' byte given
 abbrev pub statusBytes : Core → ℕ → List ℕ
 statusBytes c pins =
-    low (c .rtc .sixteenths .0) ∷ c .rtc .flags ∷ c .interrupt ∷ pins ∷ c .setup .configuration ∷ setupByte (c .setup) ∷ []
+    lowByte (c .rtc .sixteenths .0) ∷ c .rtc .flags ∷ c .interrupt ∷ pins ∷ c .setup .configuration ∷ setupByte (c .setup) ∷ []
 
 -- bytes 22 to 33
 abbrev pub wordsOf : Core → List ℕ
@@ -96,8 +96,8 @@ abbrev pub displayBytes : Display → List ℕ
 displayBytes d = d .digits ∷ d .control ∷ spell 0 5 (d .bytes)
 
 -- bytes 16 to 43, the pins' byte given
-abbrev pub fieldBytes : Panel → ℕ → List ℕ
-fieldBytes p pins = statusBytes (p .core) pins ++ wordsOf (p .core) ++ remoteBytes (p .core .remote) ++ displayBytes (p .display)
+abbrev pub stateBytes : Panel → ℕ → List ℕ
+stateBytes p pins = statusBytes (p .core) pins ++ wordsOf (p .core) ++ remoteBytes (p .core .remote) ++ displayBytes (p .display)
 
 -- 16 registers, 28 bytes of fields, and zeros to the end
 abbrev pub laidOut : List ℕ → List ℕ → List ℕ
@@ -105,4 +105,4 @@ laidOut registers fields = spell 0 16 registers ++ spell 0 28 fields ++ replicat
 
 -- THE IMAGE of a state
 abbrev pub encoded : Panel → List ℕ
-encoded p = laidOut (p .core .rtc .registers) (fieldBytes p (pinsByte (p .core .power)))
+encoded p = laidOut (p .core .rtc .registers) (stateBytes p (pinsByte (p .core .power)))

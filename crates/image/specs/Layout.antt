@@ -93,11 +93,11 @@ abbrev pub wordAt : List ℕ → ℕ → ℕ
 wordAt l at = byteAt l at + 256 * byteAt l (at + 1)
 
 -- the two bytes of a number
-abbrev pub low : ℕ → ℕ
-low n = n % 256
+abbrev pub lowByte : ℕ → ℕ
+lowByte n = n % 256
 
-abbrev pub high : ℕ → ℕ
-high n = n / 256 % 256
+abbrev pub highByte : ℕ → ℕ
+highByte n = n / 256 % 256
 
 abbrev pub wordBytes : ℕ → List ℕ
-wordBytes n = low n ∷ high n ∷ []
+wordBytes n = lowByte n ∷ highByte n ∷ []

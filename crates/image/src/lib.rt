@@ -3,7 +3,7 @@ ghost use mathlib.Core.Path.{_≡_};
 ghost use Prim.Native.Nat.{_+_, _*_, _<_};
 ghost use lib.ListN.{length};
 ghost use Rattle.image.specs.Layout.{IMAGE-LEN, wordAt};
-ghost use Rattle.image.specs.Image.{registersIn, rtcIn, powerIn, setupIn, keysIn, remoteIn, coreIn, displayIn, decoded, pinsByte, fieldBytes, laidOut, encoded};
+ghost use Rattle.image.specs.Image.{registersIn, rtcIn, powerIn, setupIn, keysIn, remoteIn, coreIn, displayIn, decoded, pinsByte, stateBytes, laidOut, encoded};
 use controller::Core;
 use controller::Keys;
 use controller::Power;
@@ -206,7 +206,7 @@ fn encode_pins(power: Power) -> u8
 
 // The bytes between the registers and the zeros, the pins' byte given.
 fn encode_fields(p: Panel, pins: u8) -> [u8; 28]
-    ensures { λ r. ⌜ r ≡ fieldBytes p pins ⌝ }
+    ensures { λ r. ⌜ r ≡ stateBytes p pins ⌝ }
 {
     let core = p.core;
     let rtc = core.rtc;

@@ -20,21 +20,21 @@ use Rattle.properties.proofs.Standby.{stby-ticked, guard-ticked}
 -- ---- One tick with STBY low
 
 module _ (c : Core) (low : c .power .stby ≡ false) where
-  pub stby-low-ticked : (ticked c) .power .stby ≡ guardEnds c
+  stby-low-ticked : (ticked c) .power .stby ≡ guardEnds c
   stby-low-ticked = stby-ticked c ∙ ap (λ (b : Bool). cond b (not (rtcEvent c)) (guardEnds c)) low
 
-  pub guard-low-ticked : {w : ℕ} → Sound w c → (ticked c) .power .guard .0 ≡ c .power .guard .0 - 1
+  guard-low-ticked : {w : ℕ} → Sound w c → (ticked c) .power .guard .0 ≡ c .power .guard .0 - 1
   guard-low-ticked h = guard-ticked h ∙ ap (λ (b : Bool). cond b (cond (rtcEvent c) (guardLoad c .0) 0) (c .power .guard .0) - 1) low
 
 -- ---- Many ticks
 
-pub setup-ticks : (c : Core) (n : ℕ) → (ticks n c) .setup ≡ c .setup
+setup-ticks : (c : Core) (n : ℕ) → (ticks n c) .setup ≡ c .setup
 unfolding ticks
 setup-ticks c zero = refl
 setup-ticks c (suc n) = setup-ticked (ticks n c) ∙ setup-ticks c n
 
 module _ {w : ℕ} {c : Core} (h : Sound w c) where
-  pub sound-ticks : (n : ℕ) → Sound w (ticks n c)
+  sound-ticks : (n : ℕ) → Sound w (ticks n c)
   unfolding ticks
   sound-ticks zero = h
   sound-ticks (suc n) = sound-ticked (sound-ticks n)

@@ -36,7 +36,7 @@ stored-all a (r ∷ rs) [] n h = ap (stored a (r ∷ rs)) (take-nil n)
 stored-all a (r ∷ rs) (b ∷ bytes) zero h = absurd (omega arith)
 stored-all a (r ∷ rs) (b ∷ bytes) (suc n) h = ap (λ (l : List ℕ). kept a b ∷ l) (stored-all (suc a) rs bytes n (omega arith))
 
-pub stored-length : (a : ℕ) (rs bytes : List ℕ) → length (stored a rs bytes) ≡ length rs
+stored-length : (a : ℕ) (rs bytes : List ℕ) → length (stored a rs bytes) ≡ length rs
 unfolding stored
 stored-length a [] bytes = refl
 stored-length a (r ∷ rs) [] = refl

@@ -28,7 +28,7 @@ use Rattle.supply.specs.Return.{registersReturned, matchCounts}
 use Rattle.supply.proofs.Returns.{clock-stopped, clock-running, flag-returned}
 use Rattle.stled325.specs.Outcome.{outcome}
 use Rattle.stled325.specs.Calls.{supplyGrounds, imageReturned, supplyReturnCall}
-use Rattle.series.specs.Series.{imageAfter, numbers, noted, within, total, sumAccepted, someAccepted, plainClock}
+use Rattle.series.specs.Series.{imageAfterSeries, numbers, noted, within, total, sumAccepted, someAccepted, plainClock}
 use Rattle.series.specs.Demand.{clockIn, stoppedIn, flagIn, alarmReached, Demand3}
 use Rattle.series.proofs.Series.{call-done, within-accepted, returned-valid, holds, none-total, after-is, after-bad, numbers-bad, numbers-good}
 
@@ -61,7 +61,7 @@ sum-is f h (n ∷ ns) = λ i. cond (h n i) n 0 + sum-is f h ns i
 -- ---- the series from a valid image
 module _ (l ns : List ℕ) (v : isValid l ≡ true) (small : Bytes l) where
   abbrev after : List ℕ
-  after = imageAfter l ns
+  after = imageAfterSeries l ns
 
   start-valid : Valid (clockIn l)
   start-valid = valid-clock-of (sound l v small .core .rtc)
@@ -112,14 +112,14 @@ module _ (l ns : List ℕ) (v : isValid l ≡ true) (small : Bytes l) where
 
 -- ---- DEMAND 3
 module _ (l ns : List ℕ) (small : Bytes l) where
-  untouched : someAccepted ns ≡ false → imageAfter l ns ≡ l
+  untouched : someAccepted ns ≡ false → imageAfterSeries l ns ≡ l
   untouched f =
-      by-cases (imageAfter l ns ≡ l) (isValid l) (λ v. after-is l ns v small ∙ sym (on-false (imageReturned l (total ns)) l f)) (λ v. after-bad l ns v)
+      by-cases (imageAfterSeries l ns ≡ l) (isValid l) (λ v. after-is l ns v small ∙ sym (on-false (imageReturned l (total ns)) l f)) (λ v. after-bad l ns v)
 
   numbers-are : numbers l ns ≡ map (λ n. firstGround (supplyGrounds l n)) ns
   numbers-are = by-cases _ (isValid l) (λ v. numbers-good l ns v small) (λ v. numbers-bad l ns v)
 
-  pub series : (before : List ℕ) → Demand3 l ns before (imageAfter l ns) (noted before (numbers l ns))
+  pub series : (before : List ℕ) → Demand3 l ns before (imageAfterSeries l ns) (noted before (numbers l ns))
   series before =
       record {
         steps = refl;

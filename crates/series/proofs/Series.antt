@@ -23,7 +23,7 @@ use Rattle.supply.proofs.Returns.{panel-add}
 use Rattle.stled325.specs.Outcome.{Outcome, outcome}
 use Rattle.stled325.specs.Calls.{supplyGrounds, imageReturned, supplyReturnCall}
 use Rattle.stled325.proofs.Decided.{accepted, refused, decided-number, first-holds, first-passed, not-valid}
-use Rattle.series.specs.Series.{imageAfter, numbers, within, total, someAccepted}
+use Rattle.series.specs.Series.{imageAfterSeries, numbers, within, total, someAccepted}
 
 -- ---- one return by its cases
 module _ (l : List ℕ) (n : ℕ) where
@@ -71,7 +71,7 @@ module _ (l : List ℕ) (v : isValid l ≡ true) (small : Bytes l) (n : ℕ) whe
   pub returned-valid : isValid (imageReturned l n) ≡ true
   returned-valid = valid-encoded (panelReturned n (decoded l)) (sound-returned n (decoded l) state)
 
-  pub returned-small : Bytes (imageReturned l n)
+  returned-small : Bytes (imageReturned l n)
   returned-small = encoded-bytes (panelReturned n (decoded l)) (sound-returned n (decoded l) state)
 
   pub holds : decoded (imageReturned l n) ≡ panelReturned n (decoded l)
@@ -95,35 +95,35 @@ none-total (n ∷ ns) e = by (within n) e (λ p. none-total ns p)
     by false p h = omega (arith, h p)
 
 -- ---- THE IMAGE after a series: that of one return after the sum, or as it was
-pub after-is : (l ns : List ℕ) → isValid l ≡ true → Bytes l → imageAfter l ns ≡ cond (someAccepted ns) (imageReturned l (total ns)) l
-unfolding imageAfter someAccepted total
+pub after-is : (l ns : List ℕ) → isValid l ≡ true → Bytes l → imageAfterSeries l ns ≡ cond (someAccepted ns) (imageReturned l (total ns)) l
+unfolding imageAfterSeries someAccepted total
 after-is l [] v small = refl
-after-is l (n ∷ ns) v small = by-cases (imageAfter (supplyReturnCall l n .image) ns ≡ cond (within n || someAccepted ns) (imageReturned l (cond (within n) n 0 + total ns)) l) (within n)
+after-is l (n ∷ ns) v small = by-cases (imageAfterSeries (supplyReturnCall l n .image) ns ≡ cond (within n || someAccepted ns) (imageReturned l (cond (within n) n 0 + total ns)) l) (within n)
     (λ t. taken t (after-is (imageReturned l n) ns (returned-valid l v small n) (returned-small l v small n))) (λ f. passed f (after-is l ns v small))
   where
     summed : (b : Bool) → (b ≡ false → total ns ≡ 0) → cond b (imageReturned (imageReturned l n) (total ns)) (imageReturned l n) ≡ imageReturned l (n + total ns)
     summed true h = returned-again l v small n (total ns)
     summed false h = let e : n ≡ n + total ns = omega (arith, h refl) in ap (imageReturned l) e
 
-    taken : within n ≡ true → imageAfter (imageReturned l n) ns ≡ cond (someAccepted ns) (imageReturned (imageReturned l n) (total ns)) (imageReturned l n) → imageAfter (supplyReturnCall l n .image) ns ≡ cond (within n || someAccepted ns) (imageReturned l (cond (within n) n 0 + total ns)) l
+    taken : within n ≡ true → imageAfterSeries (imageReturned l n) ns ≡ cond (someAccepted ns) (imageReturned (imageReturned l n) (total ns)) (imageReturned l n) → imageAfterSeries (supplyReturnCall l n .image) ns ≡ cond (within n || someAccepted ns) (imageReturned l (cond (within n) n 0 + total ns)) l
     taken t ih =
-        ap (λ (x : List ℕ). imageAfter x ns) (image-is l n v ∙ sym (on-true (imageReturned l n) l t))
+        ap (λ (x : List ℕ). imageAfterSeries x ns) (image-is l n v ∙ sym (on-true (imageReturned l n) l t))
         ∙ ih
         ∙ summed (someAccepted ns) (none-total ns)
         ∙ (λ i. cond (sym t i || someAccepted ns) (imageReturned l (cond (sym t i) n 0 + total ns)) l)
 
-    passed : within n ≡ false → imageAfter l ns ≡ cond (someAccepted ns) (imageReturned l (total ns)) l → imageAfter (supplyReturnCall l n .image) ns ≡ cond (within n || someAccepted ns) (imageReturned l (cond (within n) n 0 + total ns)) l
+    passed : within n ≡ false → imageAfterSeries l ns ≡ cond (someAccepted ns) (imageReturned l (total ns)) l → imageAfterSeries (supplyReturnCall l n .image) ns ≡ cond (within n || someAccepted ns) (imageReturned l (cond (within n) n 0 + total ns)) l
     passed f ih =
         let e : total ns ≡ 0 + total ns = omega arith in
-        ap (λ (x : List ℕ). imageAfter x ns) (image-is l n v ∙ sym (on-false (imageReturned l n) l f))
+        ap (λ (x : List ℕ). imageAfterSeries x ns) (image-is l n v ∙ sym (on-false (imageReturned l n) l f))
         ∙ ih ∙ ap (λ (k : ℕ). cond (someAccepted ns) (imageReturned l k) l) e
         ∙ (λ i. cond (sym f i || someAccepted ns) (imageReturned l (cond (sym f i) n 0 + total ns)) l)
 
 -- from an image that is not valid nothing changes
-pub after-bad : (l ns : List ℕ) → isValid l ≡ false → imageAfter l ns ≡ l
-unfolding imageAfter
+pub after-bad : (l ns : List ℕ) → isValid l ≡ false → imageAfterSeries l ns ≡ l
+unfolding imageAfterSeries
 after-bad l [] v = refl
-after-bad l (n ∷ ns) v = ap (λ (x : List ℕ). imageAfter x ns) (ap (λ (x : Outcome). x .image) (call-bad l n v)) ∙ after-bad l ns v
+after-bad l (n ∷ ns) v = ap (λ (x : List ℕ). imageAfterSeries x ns) (ap (λ (x : Outcome). x .image) (call-bad l n v)) ∙ after-bad l ns v
 
 -- ---- THE NUMBERS: each the first true ground at the start
 pub numbers-bad : (l ns : List ℕ) → isValid l ≡ false → numbers l ns ≡ map (λ n. firstGround (supplyGrounds l n)) ns

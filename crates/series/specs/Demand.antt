@@ -20,7 +20,7 @@ use Rattle.image.specs.Layout.{FLAGS, byteAt}
 use Rattle.validity.specs.Valid.{isValid}
 use Rattle.stled325.specs.Outcome.{outcome}
 use Rattle.stled325.specs.Calls.{supplyGrounds, imageReturned, supplyReturnCall}
-use Rattle.series.specs.Series.{imageAfter, numbers, noted, within, total, sumAccepted, someAccepted, plainClock}
+use Rattle.series.specs.Series.{imageAfterSeries, numbers, noted, within, total, sumAccepted, someAccepted, plainClock}
 
 -- the calendar with its weekday, the oscillator stop, and the alarm flag of an image
 abbrev pub clockIn : List ℕ → Clock
@@ -39,7 +39,7 @@ alarmReached l n =
 
 pub record Demand3 (l ns before after answers : List ℕ) : Type 0 where
   -- each return is made on the image that the one before it left, and its number is answered
-  pub steps : after ≡ imageAfter l ns
+  pub steps : after ≡ imageAfterSeries l ns
   pub answered : answers ≡ noted before (numbers l ns)
   -- each is refused exactly on the refusal table's grounds, the first true one giving its number
   pub refusals : numbers l ns ≡ map (λ n. firstGround (supplyGrounds l n)) ns

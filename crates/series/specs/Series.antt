@@ -8,9 +8,9 @@ use Rattle.calendar.specs.Clock.{LIMIT, moved}
 use Rattle.stled325.specs.Calls.{supplyReturnCall}
 
 -- the image after the series
-unfoldable pub imageAfter : List ℕ → List ℕ → List ℕ
-imageAfter l [] = l
-imageAfter l (n ∷ ns) = imageAfter (supplyReturnCall l n .image) ns
+unfoldable pub imageAfterSeries : List ℕ → List ℕ → List ℕ
+imageAfterSeries l [] = l
+imageAfterSeries l (n ∷ ns) = imageAfterSeries (supplyReturnCall l n .image) ns
 
 -- the number of each return
 unfoldable pub numbers : List ℕ → List ℕ → List ℕ

@@ -71,7 +71,7 @@ module _ (l : List ℕ) (v : Bool) (ev : v ≡ isValid l) (hv : not v ≡ false)
       pub write-refused : last ≡ true → outcome 9 l o ≡ commandCall l s o
       write-refused t = by-number 9 (λ (z : _≡_ {A = ℕ} 9 0). omega arith) (on-true 9 0 t ∙ sym number)
 
-      pub write-accepted : last ≡ false → outcome 0 nextImage nextOutput ≡ commandCall l s o
+      write-accepted : last ≡ false → outcome 0 nextImage nextOutput ≡ commandCall l s o
       write-accepted t = accepted-zero (commandGrounds l s o) l o nextImage nextOutput (number ∙ sym (on-false 9 0 t))
 
       pub command-done : (n : ℕ) (m q : List ℕ) → n ≡ numberLeft l k s → m ≡ imageLeft l k s → q ≡ outputLeft l k s o → outcome n m q ≡ commandCall l s o

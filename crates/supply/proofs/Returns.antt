@@ -28,16 +28,16 @@ use Rattle.supply.specs.Return.{registersReturned, matchCounts, flagsRet
 
 module _ (rs : List ℕ) where
   -- ---- the two cases of a return
-  pub registers-stopped : (n : ℕ) → stopped rs ≡ true → registersReturned n rs ≡ rs
+  registers-stopped : (n : ℕ) → stopped rs ≡ true → registersReturned n rs ≡ rs
   unfolding registersReturned
   registers-stopped n t = sym (on-true _ _ t)
 
-  pub registers-running : (n : ℕ) → stopped rs ≡ false → registersReturned n rs ≡ withClock rs (moved (clockOf rs) n)
+  registers-running : (n : ℕ) → stopped rs ≡ false → registersReturned n rs ≡ withClock rs (moved (clockOf rs) n)
   unfolding registersReturned
   registers-running n t = sym (on-false _ _ t)
 
   -- ---- what a return keeps of the registers
-  pub kept-stopped : (n : ℕ) → stopped (registersReturned n rs) ≡ stopped rs
+  kept-stopped : (n : ℕ) → stopped (registersReturned n rs) ≡ stopped rs
   unfolding registersReturned
   kept-stopped n = of-cond (λ (x : List ℕ). stopped x ≡ stopped rs) (stopped rs) _ _ (λ t. refl) (λ t. with-stopped rs (moved (clockOf rs) n))
 
@@ -66,7 +66,7 @@ module _ (rs : List ℕ) (m n : ℕ) where
   runs-on : stopped rs ≡ false → stopped between ≡ false
   runs-on t = kept-stopped rs m ∙ t
 
-  pub registers-add : registersReturned n between ≡ registersReturned (m + n) rs
+  registers-add : registersReturned n between ≡ registersReturned (m + n) rs
   registers-add = by-cases (registersReturned n between ≡ registersReturned (m + n) rs) (stopped rs) stands moves
     where
       stands : stopped rs ≡ true → registersReturned n between ≡ registersReturned (m + n) rs
@@ -80,7 +80,7 @@ module _ (rs : List ℕ) (m n : ℕ) where
           ∙ ap (withClock rs) (moved-moved (clockOf rs) m n)
           ∙ sym (registers-running rs (m + n) t)
 
-  pub matches-add : matchCounts (m + n) rs ≡ (matchCounts m rs || matchCounts n between)
+  matches-add : matchCounts (m + n) rs ≡ (matchCounts m rs || matchCounts n between)
   unfolding matchCounts
   matches-add = by-cases (matchCounts (m + n) rs ≡ (matchCounts m rs || matchCounts n between)) (stopped rs) stands moves
     where
@@ -117,7 +117,7 @@ once f = or-one (bitOr f ALARM-FLAG) ∙ omega (arith, or-one f)
 is-up : (f : ℕ) → bitSet (bitOr f ALARM-FLAG) ALARM-FLAG ≡ true
 is-up f = eq-eqb (bitOr f ALARM-FLAG / 1 % 2) 1 (omega (arith, or-one f))
 
-pub flags-add : (rs : List ℕ) (m n f : ℕ) → flagsReturned n (registersReturned m rs) (flagsReturned m rs f) ≡ flagsReturned (m + n) rs f
+flags-add : (rs : List ℕ) (m n f : ℕ) → flagsReturned n (registersReturned m rs) (flagsReturned m rs f) ≡ flagsReturned (m + n) rs f
 unfolding flagsReturned
 flags-add rs m n f = by (matchCounts m rs) (matchCounts n (registersReturned m rs)) ∙ ap (λ (b : Bool). cond b (bitOr f ALARM-FLAG) f) (sym (matches-add rs m n))
   where

@@ -18,7 +18,7 @@ use Rattle.calendar.proofs.Date.{date-31}
 use Rattle.calendar.proofs.Moved.{same}
 use Rattle.registers.specs.Names.{at, SECONDS, HOURS, MONTH}
 use Rattle.timekeeper.specs.Bcd.{digits, bcd, decimalTests}
-use Rattle.timekeeper.specs.Clock.{fieldBytes, clockOf, rangeTests, validCalendar, underB7, underB7B6, withClock}
+use Rattle.timekeeper.specs.Clock.{fieldBytes, clockOf, calendarTests, validCalendar, underB7, underB7B6, withClock}
 use Rattle.timekeeper.proofs.Bcd.{digits-bcd, bcd-below, decimal-back, decimal-bytes}
 
 -- ---- Bytes below flags
@@ -46,14 +46,14 @@ under-month k x h = omega (arith, bcd-below x 2 (omega arith))
 module _ (rs : List ℕ) (h : validCalendar rs ≡ true) where
   decimals : conj (decimalTests (fieldBytes rs)) ≡ true
   unfolding validCalendar
-  decimals = and-left (conj (decimalTests (fieldBytes rs))) (conj (rangeTests (clockOf rs))) h
+  decimals = and-left (conj (decimalTests (fieldBytes rs))) (conj (calendarTests (clockOf rs))) h
 
-  ranges : conj (rangeTests (clockOf rs)) ≡ true
+  ranges : conj (calendarTests (clockOf rs)) ≡ true
   unfolding validCalendar
-  ranges = and-right (conj (decimalTests (fieldBytes rs))) (conj (rangeTests (clockOf rs))) h
+  ranges = and-right (conj (decimalTests (fieldBytes rs))) (conj (calendarTests (clockOf rs))) h
 
-  range : (i : ℕ) → getD (rangeTests (clockOf rs)) i true ≡ true
-  range = each (rangeTests (clockOf rs)) ranges
+  range : (i : ℕ) → getD (calendarTests (clockOf rs)) i true ≡ true
+  range = each (calendarTests (clockOf rs)) ranges
 
   century : at rs MONTH < 256 → (clockOf rs) .century ≤ 3
   unfolding clockOf
@@ -114,9 +114,9 @@ module _ (rs : List ℕ) (c : Clock) (v : Valid c) where
       (digits-bcd (c .minute) (omega (arith, v .minute)))
       (ap digits (under-second (at rs SECONDS) (c .second) (v .second)) ∙ digits-bcd (c .second) (omega (arith, v .second)))
 
-  ranges-hold : conj (rangeTests c) ≡ true
+  ranges-hold : conj (calendarTests c) ≡ true
   ranges-hold =
-      all-hold (rangeTests c)
+      all-hold (calendarTests c)
       (le-leb _ _ (v .second)
       also le-leb _ _ (v .minute)
       also le-leb _ _ (v .hour)
@@ -146,5 +146,5 @@ module _ (rs : List ℕ) (c : Clock) (v : Valid c) where
   pub valid-with : validCalendar (withClock rs c) ≡ true
   unfolding validCalendar
   valid-with =
-      and-both (conj (decimalTests (fieldBytes (withClock rs c)))) (conj (rangeTests (clockOf (withClock rs c)))) decimals-hold
-      (ap (λ (x : Clock). conj (rangeTests x)) clock-with ∙ ranges-hold)
+      and-both (conj (decimalTests (fieldBytes (withClock rs c)))) (conj (calendarTests (clockOf (withClock rs c)))) decimals-hold
+      (ap (λ (x : Clock). conj (calendarTests x)) clock-with ∙ ranges-hold)

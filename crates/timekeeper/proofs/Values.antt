@@ -16,7 +16,7 @@ use Rattle.alarm.specs.declared.Field.{Field}
 use Rattle.registers.specs.Names.{at, SECONDS, MINUTES, HOURS, WEEKDAY, DATE, MONTH, YEAR, ALARM-MONTH, ALARM-DATE, ALARM-HOUR, ALARM-MINUTE, ALARM-SECOND, ALARM-WEEKDAY}
 use Rattle.registers.specs.Written.{written}
 use Rattle.timekeeper.specs.Bcd.{digits, bcd, decimalTests, decimal}
-use Rattle.timekeeper.specs.Clock.{fieldBytes, clockOf, rangeTests, lastDate, validCalendar, underB7, underB7B6, withClock}
+use Rattle.timekeeper.specs.Clock.{fieldBytes, clockOf, calendarTests, lastDate, validCalendar, underB7, underB7B6, withClock}
 use Rattle.timekeeper.specs.Alarm.{fieldOf, alarmOf, RPT1, RPT2, RPT3, RPT4, RPT5, RPT6}
 use Rattle.timekeeper.specs.Commit.{accepted, refused, committed}
 
@@ -31,7 +31,7 @@ clock-from rs k y m d w h n s ek ey em ed ew eh en es =
 
 module _ (b hi lo : ℕ) (low : b % 16 ≤ 9) (h : lo ≤ 9) where
   -- bytes of two decimal digits are in the order of their numbers
-  pub digits-le : leb b (hi * 16 + lo) ≡ leb (digits b) (hi * 10 + lo)
+  digits-le : leb b (hi * 16 + lo) ≡ leb (digits b) (hi * 10 + lo)
   digits-le =
       by-cases (leb b (hi * 16 + lo) ≡ leb (digits b) (hi * 10 + lo)) (leb b (hi * 16 + lo))
       (λ t. t ∙ sym (le-leb (digits b) (hi * 10 + lo) (omega (arith, leb-true b (hi * 16 + lo) t))))
@@ -46,7 +46,7 @@ digits-some b =
 module _ (rs : List ℕ) (decimal : Bool) (ed : decimal ≡ conj (decimalTests (fieldBytes rs))) where
   pub no-digits : not decimal ≡ true → false ≡ validCalendar rs
   unfolding validCalendar
-  no-digits h = ap (λ (b : Bool). b && conj (rangeTests (clockOf rs))) (sym (not-true decimal h) ∙ ed)
+  no-digits h = ap (λ (b : Bool). b && conj (calendarTests (clockOf rs))) (sym (not-true decimal h) ∙ ed)
 
   pub in-digits : not decimal ≡ false → (date month year century last : ℕ) (leapyear : Bool) → date ≡ digits (at rs DATE) → month ≡ digits (at rs MONTH % 64) → year ≡ digits (at rs YEAR)
       → century ≡ at rs MONTH / 64 → leapyear ≡ leap (100 * century + year) → last ≡ monthLength leapyear month
@@ -67,7 +67,7 @@ module _ (rs : List ℕ) (decimal : Bool) (ed : decimal ≡ conj (decimalTests (
       ∷ leb (ey i) 99
       ∷ []
       ))
-      ∙ ap (λ (b : Bool). b && conj (rangeTests (clockOf rs))) (sym all)
+      ∙ ap (λ (b : Bool). b && conj (calendarTests (clockOf rs))) (sym all)
     where
       all : conj (decimalTests (fieldBytes rs)) ≡ true
       all = sym ed ∙ not-false decimal h

@@ -38,8 +38,8 @@ abbrev pub lastDate : Clock → ℕ
 lastDate c = monthLength (leap (fullYear c)) (c .month)
 
 -- each field is in range, the date up to the last of its month
-abbrev pub rangeTests : Clock → List Bool
-rangeTests c =
+abbrev pub calendarTests : Clock → List Bool
+calendarTests c =
     leb (c .second) 59
     ∷ leb (c .minute) 59
     ∷ leb (c .hour) 23
@@ -54,7 +54,7 @@ rangeTests c =
 
 -- each nibble is at most 9, each field is in range and the date exists in its month
 unfoldable pub validCalendar : List ℕ → Bool
-validCalendar rs = conj (decimalTests (fieldBytes rs)) && conj (rangeTests (clockOf rs))
+validCalendar rs = conj (decimalTests (fieldBytes rs)) && conj (calendarTests (clockOf rs))
 
 -- ---- Writing
 

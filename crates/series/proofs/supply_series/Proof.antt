@@ -11,7 +11,7 @@ use borrow.Author.Needs.{needs}
 use Rattle.image.specs.Layout.{Bytes}
 use Rattle.stled325.specs.Outcome.{Outcome, outcome}
 use Rattle.stled325.specs.Calls.{supplyReturnCall}
-use Rattle.series.specs.Series.{imageAfter, numbers, noted}
+use Rattle.series.specs.Series.{imageAfterSeries, numbers, noted}
 use Rattle.series.specs.Demand.{Demand3}
 use Rattle.series.proofs.Series.{length-call}
 use Rattle.series.proofs.Demand.{series}
@@ -19,13 +19,13 @@ use Rattle.series.proofs.supply_series.Statement.{statement}
 use Rattle.series.proofs.supply_series.Tie as tie
 
 -- one return more at the end of a series
-image-more : (l xs : List ℕ) (n : ℕ) → imageAfter l (xs ++ (n ∷ [])) ≡ supplyReturnCall (imageAfter l xs) n .image
-unfolding imageAfter
+image-more : (l xs : List ℕ) (n : ℕ) → imageAfterSeries l (xs ++ (n ∷ [])) ≡ supplyReturnCall (imageAfterSeries l xs) n .image
+unfolding imageAfterSeries
 image-more l [] n = refl
 image-more l (x ∷ xs) n = image-more (supplyReturnCall l x .image) xs n
 
-numbers-more : (l xs : List ℕ) (n : ℕ) → numbers l (xs ++ (n ∷ [])) ≡ numbers l xs ++ (supplyReturnCall (imageAfter l xs) n .number ∷ [])
-unfolding imageAfter numbers
+numbers-more : (l xs : List ℕ) (n : ℕ) → numbers l (xs ++ (n ∷ [])) ≡ numbers l xs ++ (supplyReturnCall (imageAfterSeries l xs) n .number ∷ [])
+unfolding imageAfterSeries numbers
 numbers-more l [] n = refl
 numbers-more l (x ∷ xs) n = ap (λ (ys : List ℕ). supplyReturnCall l x .number ∷ ys) (numbers-more (supplyReturnCall l x .image) xs n)
 
@@ -50,11 +50,11 @@ record Gone (l ns a image answers : List ℕ) (i : ℕ) : Type 0 where
   most : i ≤ length ns
   sized : length image ≡ length l
   places : length answers ≡ length a
-  image-is : image ≡ imageAfter l (take i ns)
+  image-is : image ≡ imageAfterSeries l (take i ns)
   answers-are : answers ≡ noted a (numbers l (take i ns))
 
 begin : (l ns a : List ℕ) → Gone l ns a l a 0
-unfolding imageAfter numbers
+unfolding imageAfterSeries numbers
 begin l ns a = record { most = omega arith; sized = refl; places = refl; image-is = refl; answers-are = sym (noted-none a) }
 
 turn : (l ns a image answers next said : List ℕ) (i r : ℕ) → i < length ns → Gone l ns a image answers i
@@ -64,14 +64,14 @@ turn l ns a image answers next said i r h g e f =
       most = omega arith;
       sized = ap length (ap (λ (x : Outcome). x .image) e) ∙ length-call image (getD ns i 0) ∙ g .sized;
       places = ap length f ∙ length-set answers i r ∙ g .places;
-      image-is = ap (λ (x : Outcome). x .image) call ∙ sym (image-more l (take i ns) (getD ns i 0)) ∙ ap (imageAfter l) one-more;
+      image-is = ap (λ (x : Outcome). x .image) call ∙ sym (image-more l (take i ns) (getD ns i 0)) ∙ ap (imageAfterSeries l) one-more;
       answers-are =
           f ∙ (λ j. set (g .answers-are j) (sym made j) r) ∙ noted-more a (numbers l (take i ns)) r
           ∙ ap (λ (k : ℕ). noted a (numbers l (take i ns) ++ (k ∷ []))) (ap (λ (x : Outcome). x .number) call)
           ∙ ap (noted a) (sym (numbers-more l (take i ns) (getD ns i 0)) ∙ ap (numbers l) one-more);
     }
   where
-    call : outcome r next [] ≡ supplyReturnCall (imageAfter l (take i ns)) (getD ns i 0)
+    call : outcome r next [] ≡ supplyReturnCall (imageAfterSeries l (take i ns)) (getD ns i 0)
     call = e ∙ ap (λ (y : List ℕ). supplyReturnCall y (getD ns i 0)) (g .image-is)
 
     made : length (numbers l (take i ns)) ≡ i
@@ -82,8 +82,8 @@ turn l ns a image answers next said i r h g e f =
 
 finish : (l ns a image answers : List ℕ) (i : ℕ) → Bytes l → length ns ≤ i → Gone l ns a image answers i → Demand3 l ns a image answers
 finish l ns a image answers i small h g =
-    subst (λ (x : List ℕ). Demand3 l ns a x answers) (sym (g .image-is ∙ ap (imageAfter l) (take-all i ns h)))
-    (subst (λ (y : List ℕ). Demand3 l ns a (imageAfter l ns) y) (sym (g .answers-are ∙ ap (λ (x : List ℕ). noted a (numbers l x)) (take-all i ns h))) (series l ns small a))
+    subst (λ (x : List ℕ). Demand3 l ns a x answers) (sym (g .image-is ∙ ap (imageAfterSeries l) (take-all i ns h)))
+    (subst (λ (y : List ℕ). Demand3 l ns a (imageAfterSeries l ns) y) (sym (g .answers-are ∙ ap (λ (x : List ℕ). noted a (numbers l x)) (take-all i ns h))) (series l ns small a))
 
 abbrev Inv-loop : tie.InvT-loop
 Inv-loop image₀ ns answers₀ i₀ image answers i = Gone image₀ ns answers₀ image answers i
