@@ -163,8 +163,8 @@ static void read_alarm(const char *why, uint8_t source)
 {
     uint8_t reply[2];
 
-    ASK(why, reply, sizeof reply, STLED325_CMD_READ_INTERRUPT);
-    if (reply[0] != source || reply[1] != STLED325_FLAG_ALARM) {
+    ASK(why, reply, sizeof reply, STLED325_CMD_READ_INTERRUPTS);
+    if (reply[0] != source || reply[1] != STLED325_ALARM_FLAG) {
         fflush(stdout);
         fprintf(stderr, "night: the alarm was lost\n");
         exit(EXIT_FAILURE);
@@ -196,18 +196,18 @@ static void evening(void)
 
     scene(AT(MONDAY, 17, 30, 2), "The host has booted and greets the room.");
     SAY("five digits", STLED325_CMD_WRITE_DIGITS, STLED325_DIGIT_1, 0x76, 0x79, 0x38, 0x38, 0x3F);
-    SAY("display on, brightest", STLED325_CMD_DISPLAY | STLED325_DISPLAY_ON | 15);
+    SAY("display on, brightest", STLED325_CMD_SET_DISPLAY | STLED325_DISPLAY_ON | 15);
     draw(1);
 
     scene(AT(MONDAY, 17, 30, 5), "It sets clock, alarm and hot key, then raises READY.");
     SAY("clock: Mon 16 Nov 2026, 17:30:05", STLED325_CMD_WRITE_REGISTERS, STLED325_REG_SECONDS,
         0x05, 0x30, 0x17, 0x02, 0x16, 0x11, 0x26);
-    SAY("alarm: daily 07:30:00, AFE and ABE", STLED325_CMD_WRITE_REGISTERS, STLED325_REG_AL_MONTH,
+    SAY("alarm: daily 07:30:00, AFE and ABE", STLED325_CMD_WRITE_REGISTERS, STLED325_REG_ALARM_MONTH,
         STLED325_AFE | STLED325_ABE, STLED325_RPT4 | STLED325_RPT5, STLED325_RPT6 | 0x07,
         0x30, 0x00);
-    SAY("KEY1 on KS1 is hot", STLED325_CMD_HOT_KEYS, POWER_KEY, 0x00);
-    SAY("clock face, NEC remote, guard 10 s", STLED325_CMD_CONFIGURE | STLED325_CFG_RTC_FACE
-        | STLED325_CFG_GUARD_STBY, STLED325_PROTOCOL_NEC | 10);
+    SAY("KEY1 on KS1 is hot", STLED325_CMD_SET_HOT_KEYS, POWER_KEY, 0x00);
+    SAY("clock face, NEC remote, guard 10 s", STLED325_CMD_CONFIGURE | STLED325_CFG_CLOCK_FACE
+        | STLED325_CFG_GUARD_STANDBY, STLED325_PROTOCOL_NEC | 10);
     ready(1);
     draw(1);
 
@@ -240,7 +240,7 @@ static void night(void)
 
     scene(now, "It reads what has happened, and IRQ falls.");
     ASK("keys: KEY1 on KS1 only", reply, sizeof reply, STLED325_CMD_READ_KEYS);
-    ASK("interrupt: a key, in standby", reply, sizeof reply, STLED325_CMD_READ_INTERRUPT);
+    ASK("interrupt: a key, in standby", reply, sizeof reply, STLED325_CMD_READ_INTERRUPTS);
     draw(1);
 }
 
@@ -275,9 +275,9 @@ static void morning(void)
     read_alarm("interrupt: RTC; flag: alarm", STLED325_INT_RTC);
     ASK("clock: Tue 17 Nov 2026, 09:00:03", clock, sizeof clock,
         STLED325_CMD_READ_REGISTERS, STLED325_REG_SECONDS);
-    SAY("clock face, NEC remote, no guard", STLED325_CMD_CONFIGURE | STLED325_CFG_RTC_FACE,
+    SAY("clock face, NEC remote, no guard", STLED325_CMD_CONFIGURE | STLED325_CFG_CLOCK_FACE,
         STLED325_PROTOCOL_NEC);
-    SAY("display on, brightest", STLED325_CMD_DISPLAY | STLED325_DISPLAY_ON | 15);
+    SAY("display on, brightest", STLED325_CMD_SET_DISPLAY | STLED325_DISPLAY_ON | 15);
     draw(1);
 }
 
