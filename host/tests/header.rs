@@ -1,33 +1,10 @@
 //! The C header's numbers against the model's, so that both name the same bits and places.
 
-use std::collections::HashMap;
+mod numbers;
 
 use stled325_host::model::names::*;
 
-/// The header's `#define`s and enumerators that are plain numbers.
-fn header() -> HashMap<String, u32> {
-    let text = include_str!("../../include/stled325.h");
-    let number = |word: &str| {
-        let word = word.trim_end_matches(['u', 'U', 'L', ',']);
-        match word.strip_prefix("0x") {
-            Some(digits) => u32::from_str_radix(digits, 16).ok(),
-            None => word.parse().ok(),
-        }
-    };
-    let mut numbers = HashMap::new();
-    for line in text.lines() {
-        let words: Vec<&str> = line.split_whitespace().collect();
-        let (name, value) = match words[..] {
-            ["#define", name, value, ..] => (name, value),
-            [name, "=", value, ..] => (name, value),
-            _ => continue,
-        };
-        if let (Some(name), Some(value)) = (name.strip_prefix("STLED325_"), number(value)) {
-            assert!(numbers.insert(name.to_string(), value).is_none(), "{name} is defined twice");
-        }
-    }
-    numbers
-}
+use numbers::{defines, enumerators};
 
 /// The refusal numbers, the longest cut and the ticks of a second.
 const NUMBERS: &[(&str, u32)] = &[
@@ -156,7 +133,10 @@ const BYTES: &[(&str, u8)] = &[
 
 #[test]
 fn the_header_names_the_same_numbers() {
-    let mut header = header();
+    let mut header = defines();
+    for (name, number) in enumerators() {
+        assert!(header.insert(name, number).is_none(), "{name} is defined twice");
+    }
     let places = PLACES.iter().map(|&(name, place)| (name, place as u32));
     let bytes = BYTES.iter().map(|&(name, byte)| (name, u32::from(byte)));
     for (name, number) in NUMBERS.iter().copied().chain(places).chain(bytes) {
