@@ -18,9 +18,9 @@ static void line(const char *what, unsigned got, unsigned said)
 }
 
 static const uint8_t configure[] = {
-    STLED325_CMD_CONFIGURE | STLED325_CFG_WAKE_UP, STLED325_PROTOCOL_NEC};
+    STLED325_CMD_CONFIGURE | STLED325_CFG_WAKE_UP_COUNTS, STLED325_PROTOCOL_NEC};
 static const uint8_t standby[] = {STLED325_CMD_STANDBY};
-static const uint8_t display_on[] = {STLED325_CMD_DISPLAY | STLED325_DISPLAY_ON};
+static const uint8_t display_on[] = {STLED325_CMD_SET_DISPLAY | STLED325_DISPLAY_ON};
 static const uint8_t digit[] = {STLED325_CMD_WRITE_DIGITS, STLED325_DIGIT_1, 0x3F};
 static const uint8_t read_remote[] = {STLED325_CMD_READ_REMOTE};
 

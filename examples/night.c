@@ -6,17 +6,16 @@
  * cut that swallows the hour of the alarm, a panel that tells its alarm all the
  * same, and a morning on which the alarm wakes it. Everything seen comes from
  * the library's calls; the program only plays the keys, the host and the mains.
+ * How it is drawn is in face.c.
  *
- * Build: cc -std=c99 -I include examples/night.c libstled325.a -o night
+ * Build: cc -std=c99 -I include examples/night.c examples/face.c \
+ *            libstled325.a -o night
  */
-#define _POSIX_C_SOURCE 200112L /* isatty and nanosleep */
-
 #include <stdio.h>
 #include <stdlib.h>
 #include <string.h>
-#include <time.h>
-#include <unistd.h>
 
+#include "face.h"
 #include "stled325.h"
 
 /* Seconds of the story, counted from Monday 16 November 2026, 00:00:00. */
@@ -30,11 +29,10 @@ enum { MONDAY, TUESDAY, WEDNESDAY };
 #define MENU_KEY  0x0020u
 
 static uint8_t image[STLED325_IMAGE_LEN];
-static unsigned long now;        /* the story's time                     */
-static int colours;              /* on a terminal that shows them        */
-static double pause_seconds;     /* after each picture; 0 for a plain run */
+static unsigned long now;    /* the story's time                      */
+static double pause_seconds; /* after each picture; 0 for a plain run */
 
-/* ---- checking ---------------------------------------------------- */
+/* ---- checking and drawing ------------------------------------------ */
 
 static void must(uint32_t number, const char *call)
 {
@@ -45,78 +43,17 @@ static void must(uint32_t number, const char *call)
     }
 }
 
-/* ---- drawing ----------------------------------------------------- */
-
-#define LIT   (colours ? "\033[1;31m" : "")
-#define AMBER (colours ? "\033[1;33m" : "")
-#define BOLD  (colours ? "\033[1m" : "")
-#define PLAIN (colours ? "\033[0m" : "")
-
-/* A terminal that knows colours, and nobody who asks for none. */
-static int shows_colours(void)
-{
-    const char *none = getenv("NO_COLOR"), *term = getenv("TERM");
-
-    return isatty(STDOUT_FILENO) && (none == NULL || *none == '\0')
-        && term != NULL && strcmp(term, "dumb") != 0;
-}
-
-/* One of the three text rows of a digit: three columns, then the point's. */
-static void draw_row(uint8_t segments, int row)
-{
-    static const struct { uint8_t left, middle, right; } rows[3] = {
-        { 0x00, 0x01, 0x00 }, /*    a    */
-        { 0x20, 0x40, 0x02 }, /* f  g  b */
-        { 0x10, 0x08, 0x04 }  /* e  d  c */
-    };
-    putchar(segments & rows[row].left ? '|' : ' ');
-    putchar(segments & rows[row].middle ? '_' : ' ');
-    putchar(segments & rows[row].right ? '|' : ' ');
-    putchar(row == 2 && (segments & STLED325_POINT) ? '.' : ' ');
-}
-
-static void pause_if_watched(void)
-{
-    struct timespec rest;
-
-    fflush(stdout);
-    if (pause_seconds > 0) {
-        rest.tv_sec = (time_t)pause_seconds;
-        rest.tv_nsec = (long)((pause_seconds - (double)rest.tv_sec) * 1e9);
-        nanosleep(&rest, NULL);
-    }
-}
-
-/* The face with its lamps; a panel without supply shows nothing at all. */
+/* The panel as it is seen now; one without supply shows nothing at all. */
 static void draw(int powered)
 {
-    static const char *const names[3] = { "STBY", "MUTE", "IRQ " };
-    static const uint8_t bits[3] = {
-        STLED325_LINE_STBY, STLED325_LINE_MUTE, STLED325_LINE_IRQ
-    };
     uint8_t digits[STLED325_DIGITS_LEN] = { 0 };
     uint8_t lines[STLED325_LINES_LEN] = { 0 };
-    int row, digit;
 
     if (powered) {
         must(stled325_show(image, sizeof image, digits, sizeof digits), "show");
         must(stled325_lines(image, sizeof image, lines, sizeof lines), "lines");
     }
-    printf("    .---------------------------.\n");
-    for (row = 0; row < 3; row++) {
-        printf("    |  %s", LIT);
-        for (digit = 0; digit < STLED325_DIGITS_LEN; digit++) {
-            draw_row(digits[digit], row);
-            putchar(' ');
-        }
-        printf("%s|   %s ", PLAIN, names[row]);
-        if (lines[0] & bits[row])
-            printf("%s(*)%s\n", AMBER, PLAIN);
-        else
-            printf("( )\n");
-    }
-    printf("    '---------------------------'\n\n");
-    pause_if_watched();
+    draw_face(digits, lines[0], pause_seconds);
 }
 
 /* ---- what happens to the panel ------------------------------------- */
@@ -131,8 +68,8 @@ static void scene(unsigned long then, const char *words)
     for (ticks = (then - now) * STLED325_TICKS_PER_SECOND; ticks > 0; ticks--)
         must(stled325_tick(image, sizeof image), "tick");
     now = then;
-    printf("%s%s %02lu:%02lu:%02lu%s  %s\n", BOLD, days[now / DAY],
-           time / 3600, time / 60 % 60, time % 60, PLAIN, words);
+    printf("%s%s %02lu:%02lu:%02lu%s  %s\n", ink(BOLD), days[now / DAY],
+           time / 3600, time / 60 % 60, time % 60, ink(PLAIN), words);
 }
 
 /* The host sends a command, and the bytes of both ways are told. */
@@ -163,8 +100,8 @@ static void read_alarm(const char *why, uint8_t source)
 {
     uint8_t reply[2];
 
-    ASK(why, reply, sizeof reply, STLED325_CMD_READ_INTERRUPT);
-    if (reply[0] != source || reply[1] != STLED325_FLAG_ALARM) {
+    ASK(why, reply, sizeof reply, STLED325_CMD_READ_INTERRUPTS);
+    if (reply[0] != source || reply[1] != STLED325_ALARM_FLAG) {
         fflush(stdout);
         fprintf(stderr, "night: the alarm was lost\n");
         exit(EXIT_FAILURE);
@@ -196,18 +133,18 @@ static void evening(void)
 
     scene(AT(MONDAY, 17, 30, 2), "The host has booted and greets the room.");
     SAY("five digits", STLED325_CMD_WRITE_DIGITS, STLED325_DIGIT_1, 0x76, 0x79, 0x38, 0x38, 0x3F);
-    SAY("display on, brightest", STLED325_CMD_DISPLAY | STLED325_DISPLAY_ON | 15);
+    SAY("display on, brightest", STLED325_CMD_SET_DISPLAY | STLED325_DISPLAY_ON | 15);
     draw(1);
 
     scene(AT(MONDAY, 17, 30, 5), "It sets clock, alarm and hot key, then raises READY.");
     SAY("clock: Mon 16 Nov 2026, 17:30:05", STLED325_CMD_WRITE_REGISTERS, STLED325_REG_SECONDS,
         0x05, 0x30, 0x17, 0x02, 0x16, 0x11, 0x26);
-    SAY("alarm: daily 07:30:00, AFE and ABE", STLED325_CMD_WRITE_REGISTERS, STLED325_REG_AL_MONTH,
-        STLED325_AFE | STLED325_ABE, STLED325_RPT4 | STLED325_RPT5, STLED325_RPT6 | 0x07,
-        0x30, 0x00);
-    SAY("KEY1 on KS1 is hot", STLED325_CMD_HOT_KEYS, POWER_KEY, 0x00);
-    SAY("clock face, NEC remote, guard 10 s", STLED325_CMD_CONFIGURE | STLED325_CFG_RTC_FACE
-        | STLED325_CFG_GUARD_STBY, STLED325_PROTOCOL_NEC | 10);
+    SAY("alarm: daily 07:30:00, AFE and ABE", STLED325_CMD_WRITE_REGISTERS,
+        STLED325_REG_ALARM_MONTH, STLED325_AFE | STLED325_ABE, STLED325_RPT4 | STLED325_RPT5,
+        STLED325_RPT6 | 0x07, 0x30, 0x00);
+    SAY("KEY1 on KS1 is hot", STLED325_CMD_SET_HOT_KEYS, POWER_KEY, 0x00);
+    SAY("clock face, NEC remote, guard 10 s", STLED325_CMD_CONFIGURE | STLED325_CFG_CLOCK_FACE
+        | STLED325_CFG_GUARD_STANDBY, STLED325_PROTOCOL_NEC | 10);
     ready(1);
     draw(1);
 
@@ -240,7 +177,7 @@ static void night(void)
 
     scene(now, "It reads what has happened, and IRQ falls.");
     ASK("keys: KEY1 on KS1 only", reply, sizeof reply, STLED325_CMD_READ_KEYS);
-    ASK("interrupt: a key, in standby", reply, sizeof reply, STLED325_CMD_READ_INTERRUPT);
+    ASK("interrupt: a key, in standby", reply, sizeof reply, STLED325_CMD_READ_INTERRUPTS);
     draw(1);
 }
 
@@ -275,9 +212,9 @@ static void morning(void)
     read_alarm("interrupt: RTC; flag: alarm", STLED325_INT_RTC);
     ASK("clock: Tue 17 Nov 2026, 09:00:03", clock, sizeof clock,
         STLED325_CMD_READ_REGISTERS, STLED325_REG_SECONDS);
-    SAY("clock face, NEC remote, no guard", STLED325_CMD_CONFIGURE | STLED325_CFG_RTC_FACE,
+    SAY("clock face, NEC remote, no guard", STLED325_CMD_CONFIGURE | STLED325_CFG_CLOCK_FACE,
         STLED325_PROTOCOL_NEC);
-    SAY("display on, brightest", STLED325_CMD_DISPLAY | STLED325_DISPLAY_ON | 15);
+    SAY("display on, brightest", STLED325_CMD_SET_DISPLAY | STLED325_DISPLAY_ON | 15);
     draw(1);
 }
 
@@ -348,7 +285,6 @@ int main(int argc, char **argv)
             return wrong("unknown option", argv[i]);
         }
     }
-    colours = shows_colours();
     fputs(legend, stdout);
     evening();
     night();

@@ -191,7 +191,7 @@ static void print_cut(const char *name, const struct scene *scene)
     make_calls(&archive, &scene->call, image, 1, out);
     putchar(' ');
     print_registers(image);
-    printf(" %d %.0f\n", image[STLED325_AT_FLAGS] & STLED325_FLAG_ALARM, median_of(&series));
+    printf(" %d %.0f\n", image[STLED325_AT_FLAGS] & STLED325_ALARM_FLAG, median_of(&series));
 }
 
 int main(int argc, char **argv)

@@ -40,9 +40,9 @@ static void random_clock(uint8_t *reg)
     reg[STLED325_REG_SECONDS] |= (uint8_t)to_bcd(once_in(2) ? 59 : below(60));
     reg[STLED325_REG_MINUTES] = (uint8_t)to_bcd(once_in(2) ? 59 : below(60));
     reg[STLED325_REG_HOURS] |= (uint8_t)to_bcd(once_in(2) ? 23 : below(24));
-    reg[STLED325_REG_DAY] = (uint8_t)(1 + below(7));
+    reg[STLED325_REG_WEEKDAY] = (uint8_t)(1 + below(7));
     reg[STLED325_REG_DATE] = (uint8_t)to_bcd(date);
-    reg[STLED325_REG_CENTURY_MONTH] = (uint8_t)((byte() & STLED325_CB) | to_bcd(month));
+    reg[STLED325_REG_MONTH] = (uint8_t)((byte() & STLED325_CB) | to_bcd(month));
     reg[STLED325_REG_YEAR] = (uint8_t)to_bcd(year);
 }
 
@@ -55,20 +55,21 @@ static void random_alarm(uint8_t *reg)
     uint8_t own[6];
     size_t i;
 
-    own[0] = reg[STLED325_REG_CENTURY_MONTH] & 0x1F;
+    own[0] = reg[STLED325_REG_MONTH] & 0x1F;
     own[1] = reg[STLED325_REG_DATE];
     own[2] = reg[STLED325_REG_HOURS] & 0x3F;
     own[3] = reg[STLED325_REG_MINUTES];
     own[4] = reg[STLED325_REG_SECONDS] & 0x7F;
-    own[5] = (uint8_t)(reg[STLED325_REG_DAY] << 4);
+    own[5] = (uint8_t)(reg[STLED325_REG_WEEKDAY] << 4);
     for (i = 0; i < 5; i++) {
         uint8_t value = once_in(spread) ? own[i] : (uint8_t)to_bcd(below(most[i] + 1u));
-        reg[STLED325_REG_AL_MONTH + i] = once_in(12) ? byte() : (uint8_t)(value | (once_in(2) ? repeats[i] : 0));
+        reg[STLED325_REG_ALARM_MONTH + i] = once_in(12) ? byte() : (uint8_t)(value | (once_in(2) ? repeats[i] : 0));
     }
-    reg[STLED325_REG_AL_MONTH] = (uint8_t)((reg[STLED325_REG_AL_MONTH] & 0x1F) | (once_in(3) ? byte() & 0xA0 : 0xA0));
-    reg[STLED325_REG_AL_DATE] |= once_in(2) ? STLED325_RPT5 : 0;
-    reg[STLED325_REG_AL_HOUR] |= once_in(2) ? STLED325_RPT6 : 0;
-    reg[STLED325_REG_AL_DAY] = (uint8_t)((byte() & STLED325_WDFEN) | (once_in(2) ? own[5] : byte() & 0x70));
+    reg[STLED325_REG_ALARM_MONTH] &= 0x1F;
+    reg[STLED325_REG_ALARM_MONTH] |= once_in(3) ? byte() & 0xA0 : 0xA0;
+    reg[STLED325_REG_ALARM_DATE] |= once_in(2) ? STLED325_RPT5 : 0;
+    reg[STLED325_REG_ALARM_HOUR] |= once_in(2) ? STLED325_RPT6 : 0;
+    reg[STLED325_REG_ALARM_WEEKDAY] = (uint8_t)((byte() & STLED325_WDFEN) | (once_in(2) ? own[5] : byte() & 0x70));
 }
 
 static unsigned rest(unsigned most)
@@ -95,9 +96,9 @@ void random_image(uint8_t *image)
     image[STLED325_AT_INTERRUPT] = once_in(2) ? 0 : byte();
     image[STLED325_AT_PINS] = once_in(2) ? (uint8_t)below(8) : (uint8_t)below(4);
     image[STLED325_AT_CONFIGURATION] = byte() & 0x2F;
-    image[STLED325_AT_REMOTE_SETUP] = (uint8_t)(protocols[below(4)] | below(16));
+    image[STLED325_AT_SETUP] = (uint8_t)(protocols[below(4)] | below(16));
     if ((image[STLED325_AT_PINS] & STLED325_PIN_STBY) == 0)
-        set_word(image, STLED325_AT_GUARD_LEFT, rest(guard_load(image[STLED325_AT_REMOTE_SETUP])));
+        set_word(image, STLED325_AT_GUARD_LEFT, rest(guard_load(image[STLED325_AT_SETUP])));
     set_word(image, STLED325_AT_WATCHDOG_LEFT, rest(watchdog_load(image[STLED325_REG_WATCHDOG])));
     for (i = STLED325_AT_HOT_KEYS; i < STLED325_AT_REMOTE_FRESH; i++)
         image[i] = byte() & byte();
@@ -158,7 +159,7 @@ static uint32_t random_frame(const uint8_t *image)
     uint32_t command = byte();
     uint32_t nec = 0xFF00u | command << 16 | (~command & 0xFFu) << 24;
     uint32_t rc5 = 0x3000u | below(2) << 11 | (command & 0x3Fu);
-    uint32_t frame = (image[STLED325_AT_REMOTE_SETUP] & 0x70u) == STLED325_PROTOCOL_NEC ? nec : rc5;
+    uint32_t frame = (image[STLED325_AT_SETUP] & 0x70u) == STLED325_PROTOCOL_NEC ? nec : rc5;
 
     return once_in(4) ? frame ^ 1u << below(32) : frame;
 }

@@ -39,19 +39,19 @@ struct day {
 static inline struct day day_in(const uint8_t *registers)
 {
     struct day day;
-    day.weekday = registers[STLED325_REG_DAY];
+    day.weekday = registers[STLED325_REG_WEEKDAY];
     day.date = registers[STLED325_REG_DATE];
-    day.month = registers[STLED325_REG_CENTURY_MONTH] & 0x1Fu;
+    day.month = registers[STLED325_REG_MONTH] & 0x1Fu;
     day.year = registers[STLED325_REG_YEAR];
-    day.century = registers[STLED325_REG_CENTURY_MONTH] >> 6;
+    day.century = registers[STLED325_REG_MONTH] >> 6;
     return day;
 }
 
 static inline void write_day(uint8_t *registers, struct day day)
 {
-    registers[STLED325_REG_DAY] = (uint8_t)day.weekday;
+    registers[STLED325_REG_WEEKDAY] = (uint8_t)day.weekday;
     registers[STLED325_REG_DATE] = (uint8_t)day.date;
-    registers[STLED325_REG_CENTURY_MONTH] = (uint8_t)(day.century << 6 | day.month);
+    registers[STLED325_REG_MONTH] = (uint8_t)(day.century << 6 | day.month);
     registers[STLED325_REG_YEAR] = (uint8_t)day.year;
 }
 

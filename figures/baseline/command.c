@@ -26,7 +26,7 @@ static uint32_t read_and_clear(uint8_t *image, const struct command *c, size_t a
     return STLED325_ACCEPTED;
 }
 
-static uint32_t read_interrupt(uint8_t *image, const struct command *c)
+static uint32_t read_interrupts(uint8_t *image, const struct command *c)
 {
     uint8_t both[2];
 
@@ -44,7 +44,7 @@ static uint32_t read_registers(const uint8_t *image, const struct command *c)
 {
     if (c->len < 2)
         return STLED325_TOO_SHORT;
-    if (c->bytes[1] > STLED325_REG_AL_DAY)
+    if (c->bytes[1] > STLED325_REG_ALARM_WEEKDAY)
         return STLED325_BAD_ADDRESS;
     reply(c, image + c->bytes[1], 16u - c->bytes[1]);
     return STLED325_ACCEPTED;
@@ -53,18 +53,18 @@ static uint32_t read_registers(const uint8_t *image, const struct command *c)
 static uint32_t configure(uint8_t *image, const struct command *c)
 {
     uint8_t bits = c->bytes[0];
-    int sets_digits = (bits & STLED325_CFG_SET_DIGITS) != 0;
+    int gives_digits = (bits & STLED325_CFG_GIVES_DIGITS) != 0;
 
-    if (c->len < (sets_digits ? 3u : 2u))
+    if (c->len < (gives_digits ? 3u : 2u))
         return STLED325_TOO_SHORT;
     if (!protocol_listed(c->bytes[1]))
         return STLED325_BAD_PROTOCOL;
-    if (sets_digits && (c->bytes[2] < 1 || c->bytes[2] > 5))
+    if (gives_digits && (c->bytes[2] < 1 || c->bytes[2] > 5))
         return STLED325_BAD_DIGITS;
-    image[STLED325_AT_CONFIGURATION] = bits & (uint8_t)~STLED325_CFG_SET_DIGITS;
-    image[STLED325_AT_REMOTE_SETUP] = c->bytes[1] & 0x7F;
+    image[STLED325_AT_CONFIGURATION] = bits & (uint8_t)~STLED325_CFG_GIVES_DIGITS;
+    image[STLED325_AT_SETUP] = c->bytes[1] & 0x7F;
     set_word(image, STLED325_AT_GUARD_LEFT, guard_load(c->bytes[1]));
-    if (sets_digits && c->bytes[2] != image[STLED325_AT_DIGITS]) {
+    if (gives_digits && c->bytes[2] != image[STLED325_AT_DIGITS]) {
         image[STLED325_AT_DIGITS] = c->bytes[2];
         image[STLED325_AT_DISPLAY_CONTROL] &= (uint8_t)~STLED325_DISPLAY_ON;
     }
@@ -99,7 +99,7 @@ static uint32_t write_registers(uint8_t *image, const struct command *c)
     if (c->len < 3)
         return STLED325_TOO_SHORT;
     from = c->bytes[1];
-    if (from < STLED325_REG_SECONDS || from > STLED325_REG_AL_DAY)
+    if (from < STLED325_REG_SECONDS || from > STLED325_REG_ALARM_WEEKDAY)
         return STLED325_BAD_ADDRESS;
     end = c->len - 2 < 16 - from ? from + c->len - 2 : 16;
     memcpy(next, image, sizeof next);
@@ -139,7 +139,7 @@ static uint32_t standby(uint8_t *image)
 static uint32_t reload_guard(uint8_t *image)
 {
     if (word_at(image, STLED325_AT_GUARD_LEFT) != 0)
-        set_word(image, STLED325_AT_GUARD_LEFT, guard_load(image[STLED325_AT_REMOTE_SETUP]));
+        set_word(image, STLED325_AT_GUARD_LEFT, guard_load(image[STLED325_AT_SETUP]));
     return STLED325_ACCEPTED;
 }
 
@@ -149,7 +149,7 @@ static uint32_t execute(uint8_t *image, const struct command *c)
 
     if (first < 0x40)
         return configure(image, c);
-    if ((first & 0xE0) == STLED325_CMD_DISPLAY)
+    if ((first & 0xE0) == STLED325_CMD_SET_DISPLAY)
         return set_display(image, first);
     switch (first) {
     case STLED325_CMD_WRITE_DIGITS:
@@ -160,11 +160,11 @@ static uint32_t execute(uint8_t *image, const struct command *c)
         return read_and_clear(image, c, STLED325_AT_KEY_STORE, 2);
     case STLED325_CMD_READ_REMOTE:
         return read_and_clear(image, c, STLED325_AT_REMOTE_FRESH, 3);
-    case STLED325_CMD_READ_INTERRUPT:
-        return read_interrupt(image, c);
+    case STLED325_CMD_READ_INTERRUPTS:
+        return read_interrupts(image, c);
     case STLED325_CMD_READ_REGISTERS:
         return read_registers(image, c);
-    case STLED325_CMD_HOT_KEYS:
+    case STLED325_CMD_SET_HOT_KEYS:
         return set_hot_keys(image, c);
     case STLED325_CMD_STANDBY:
         return standby(image);

@@ -33,13 +33,13 @@ static void show_clock(const uint8_t *registers, uint8_t *digits)
     unsigned hours = registers[STLED325_REG_HOURS];
 
     if ((hours & STLED325_MD_H) != 0) {
-        show_pair(digits, registers[STLED325_REG_CENTURY_MONTH] & 0x1Fu);
+        show_pair(digits, registers[STLED325_REG_MONTH] & 0x1Fu);
         show_pair(digits + 2, registers[STLED325_REG_DATE]);
     } else if ((hours & STLED325_M_MS) != 0) {
         show_pair(digits, registers[STLED325_REG_MINUTES]);
         show_pair(digits + 2, registers[STLED325_REG_SECONDS] & 0x7Fu);
     } else {
-        if ((registers[STLED325_REG_CALIBRATION] & STLED325_12_24) != 0)
+        if ((registers[STLED325_REG_CALIBRATION] & STLED325_TWELVE_HOURS) != 0)
             show_twelve_hours(digits, hours & 0x3Fu);
         else
             show_pair(digits, hours & 0x3Fu);
@@ -57,7 +57,7 @@ uint32_t baseline_show(const uint8_t *image, size_t image_len, uint8_t *digits, 
         return STLED325_BAD_IMAGE;
     if (digits_len != STLED325_DIGITS_LEN)
         return STLED325_BAD_BUFFER;
-    face = (image[STLED325_AT_CONFIGURATION] & STLED325_CFG_RTC_FACE) != 0;
+    face = (image[STLED325_AT_CONFIGURATION] & STLED325_CFG_CLOCK_FACE) != 0;
     used = image[STLED325_AT_DIGITS];
     if ((image[STLED325_AT_DISPLAY_CONTROL] & STLED325_DISPLAY_ON) == 0 || (in_standby(image) && !face)) {
         memset(digits, 0, STLED325_DIGITS_LEN);

@@ -10,9 +10,9 @@ static int bcd_between(unsigned byte, unsigned lowest, unsigned highest)
 int calendar_valid(const uint8_t *registers)
 {
     unsigned date = registers[STLED325_REG_DATE];
-    unsigned month = registers[STLED325_REG_CENTURY_MONTH] & 0x1Fu;
+    unsigned month = registers[STLED325_REG_MONTH] & 0x1Fu;
     unsigned year = registers[STLED325_REG_YEAR];
-    unsigned weekday = registers[STLED325_REG_DAY];
+    unsigned weekday = registers[STLED325_REG_WEEKDAY];
 
     return bcd_between(registers[STLED325_REG_SECONDS] & 0x7Fu, 0x00, 0x59) &&
            bcd_between(registers[STLED325_REG_MINUTES], 0x00, 0x59) &&
@@ -27,12 +27,12 @@ static int reserved_clear(const uint8_t *registers)
 {
     return (registers[STLED325_REG_RESERVED] |
             (registers[STLED325_REG_MINUTES] & 0x80) |
-            (registers[STLED325_REG_DAY] & 0xF8) |
+            (registers[STLED325_REG_WEEKDAY] & 0xF8) |
             (registers[STLED325_REG_DATE] & 0xC0) |
-            (registers[STLED325_REG_CENTURY_MONTH] & 0x20) |
+            (registers[STLED325_REG_MONTH] & 0x20) |
             (registers[STLED325_REG_CALIBRATION] & 0x40) |
-            (registers[STLED325_REG_AL_MONTH] & 0x40) |
-            (registers[STLED325_REG_AL_DAY] & 0x0F)) == 0;
+            (registers[STLED325_REG_ALARM_MONTH] & 0x40) |
+            (registers[STLED325_REG_ALARM_WEEKDAY] & 0x0F)) == 0;
 }
 
 /* The sixteenths that register 09h loads; 0 is off. */
@@ -48,7 +48,7 @@ static int timers_valid(const uint8_t *image)
 {
     unsigned guard = word_at(image, STLED325_AT_GUARD_LEFT);
 
-    return guard <= guard_load(image[STLED325_AT_REMOTE_SETUP]) &&
+    return guard <= guard_load(image[STLED325_AT_SETUP]) &&
            (guard == 0 || !in_standby(image)) &&
            word_at(image, STLED325_AT_WATCHDOG_LEFT) <= watchdog_load(image[STLED325_REG_WATCHDOG]);
 }
@@ -59,8 +59,8 @@ static int fields_valid(const uint8_t *image)
            image[STLED325_AT_FLAGS] < 0x04 &&
            image[STLED325_AT_PINS] < 0x08 &&
            (image[STLED325_AT_CONFIGURATION] & 0xD0) == 0 &&
-           (image[STLED325_AT_REMOTE_SETUP] & 0x80) == 0 &&
-           protocol_listed(image[STLED325_AT_REMOTE_SETUP]) &&
+           (image[STLED325_AT_SETUP] & 0x80) == 0 &&
+           protocol_listed(image[STLED325_AT_SETUP]) &&
            image[STLED325_AT_REMOTE_FRESH] <= 1 &&
            image[STLED325_AT_REMOTE_ADDRESS] == 0 &&
            (image[STLED325_AT_REMOTE_FRESH] == 1 || image[STLED325_AT_REMOTE_COMMAND] == 0) &&
@@ -84,11 +84,11 @@ int image_valid(const uint8_t *image, size_t image_len)
 void write_power_up(uint8_t *image)
 {
     memset(image, 0, STLED325_IMAGE_LEN);
-    image[STLED325_REG_DAY] = 0x07;
+    image[STLED325_REG_WEEKDAY] = 0x07;
     image[STLED325_REG_DATE] = 0x01;
-    image[STLED325_REG_CENTURY_MONTH] = 0x01;
+    image[STLED325_REG_MONTH] = 0x01;
     image[STLED325_AT_CONFIGURATION] = 0x01;
-    image[STLED325_AT_REMOTE_SETUP] = 0x0A;
+    image[STLED325_AT_SETUP] = 0x0A;
     set_word(image, STLED325_AT_GUARD_LEFT, 160);
     image[STLED325_AT_DIGITS] = 5;
 }

@@ -43,13 +43,13 @@ uint32_t baseline_remote_frame(uint8_t *image, size_t image_len, uint32_t frame)
 
     if (!image_valid(image, image_len))
         return STLED325_BAD_IMAGE;
-    command = key_in(image[STLED325_AT_REMOTE_SETUP], frame);
+    command = key_in(image[STLED325_AT_SETUP], frame);
     if (command < 0)
         return STLED325_NO_KEY;
     image[STLED325_AT_REMOTE_FRESH] = 1;
     image[STLED325_AT_REMOTE_ADDRESS] = 0;
     image[STLED325_AT_REMOTE_COMMAND] = (uint8_t)command;
-    if (!in_standby(image) || (image[STLED325_AT_CONFIGURATION] & STLED325_CFG_REMOTE_WAKE) != 0)
+    if (!in_standby(image) || (image[STLED325_AT_CONFIGURATION] & STLED325_CFG_REMOTE_WAKES) != 0)
         report(image, STLED325_INT_REMOTE);
     return STLED325_ACCEPTED;
 }
@@ -82,7 +82,7 @@ uint32_t baseline_wake_up(uint8_t *image, size_t image_len, uint32_t level)
         image[STLED325_AT_PINS] &= (uint8_t)~STLED325_PIN_WAKE_UP;
     } else if (!was_high) {
         image[STLED325_AT_PINS] |= STLED325_PIN_WAKE_UP;
-        if ((image[STLED325_AT_CONFIGURATION] & STLED325_CFG_WAKE_UP) != 0)
+        if ((image[STLED325_AT_CONFIGURATION] & STLED325_CFG_WAKE_UP_COUNTS) != 0)
             report(image, STLED325_INT_WAKE_UP);
     }
     return STLED325_ACCEPTED;

@@ -54,7 +54,7 @@ static inline void begin_standby(uint8_t *image)
 static inline void end_standby(uint8_t *image)
 {
     image[STLED325_AT_PINS] &= (uint8_t)~STLED325_PIN_STBY;
-    set_word(image, STLED325_AT_GUARD_LEFT, guard_load(image[STLED325_AT_REMOTE_SETUP]));
+    set_word(image, STLED325_AT_GUARD_LEFT, guard_load(image[STLED325_AT_SETUP]));
 }
 
 /* Sets the interrupt bit of a source, given by its bit for STBY low, and ends standby. */

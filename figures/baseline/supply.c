@@ -28,12 +28,12 @@ static unsigned alarm_number(unsigned byte)
 /* The first second of the day from a time on that fits the alarm's time, or DAY. */
 static uint32_t first_fit(const uint8_t *registers, uint32_t time)
 {
-    int any_hour = (registers[STLED325_REG_AL_HOUR] & STLED325_RPT3) != 0;
-    int any_minute = (registers[STLED325_REG_AL_MIN] & STLED325_RPT2) != 0;
-    int any_second = (registers[STLED325_REG_AL_SEC] & STLED325_RPT1) != 0;
-    unsigned hour = alarm_number(registers[STLED325_REG_AL_HOUR] & 0x3Fu);
-    unsigned minute = alarm_number(registers[STLED325_REG_AL_MIN] & 0x7Fu);
-    unsigned second = alarm_number(registers[STLED325_REG_AL_SEC] & 0x7Fu);
+    int any_hour = (registers[STLED325_REG_ALARM_HOUR] & STLED325_RPT3) != 0;
+    int any_minute = (registers[STLED325_REG_ALARM_MINUTE] & STLED325_RPT2) != 0;
+    int any_second = (registers[STLED325_REG_ALARM_SECOND] & STLED325_RPT1) != 0;
+    unsigned hour = alarm_number(registers[STLED325_REG_ALARM_HOUR] & 0x3Fu);
+    unsigned minute = alarm_number(registers[STLED325_REG_ALARM_MINUTE] & 0x7Fu);
+    unsigned second = alarm_number(registers[STLED325_REG_ALARM_SECOND] & 0x7Fu);
 
     while (time < DAY) {
         if (!any_hour && time / 3600 != hour)
@@ -60,7 +60,7 @@ static int fits_between(const uint8_t *registers, uint32_t first, uint32_t last)
 static int move_on(uint8_t *registers, uint32_t n)
 {
     const unsigned enabled = STLED325_AFE | STLED325_ABE;
-    int counts = (registers[STLED325_REG_AL_MONTH] & enabled) == enabled;
+    int counts = (registers[STLED325_REG_ALARM_MONTH] & enabled) == enabled;
     struct day day = day_in(registers);
     uint32_t start = time_in(registers);
     uint32_t last = start + n;
@@ -90,8 +90,8 @@ uint32_t baseline_supply_return(uint8_t *image, size_t image_len, uint32_t secon
     write_power_up(image);
     memcpy(image, kept, sizeof kept);
     if ((image[STLED325_REG_SECONDS] & STLED325_OSC_ST) == 0 && move_on(image, seconds))
-        image[STLED325_AT_FLAGS] |= STLED325_FLAG_ALARM;
-    if ((image[STLED325_AT_FLAGS] & STLED325_FLAG_ALARM) != 0)
+        image[STLED325_AT_FLAGS] |= STLED325_ALARM_FLAG;
+    if ((image[STLED325_AT_FLAGS] & STLED325_ALARM_FLAG) != 0)
         image[STLED325_AT_INTERRUPT] = STLED325_INT_RTC;
     return STLED325_ACCEPTED;
 }

@@ -38,8 +38,8 @@ static void step_clock(uint8_t *image)
         return;
     image[STLED325_AT_SIXTEENTHS] = 0;
     pass_second(image);
-    if ((image[STLED325_REG_AL_MONTH] & STLED325_AFE) != 0 && matches(image)) {
-        image[STLED325_AT_FLAGS] |= STLED325_FLAG_ALARM;
+    if ((image[STLED325_REG_ALARM_MONTH] & STLED325_AFE) != 0 && matches(image)) {
+        image[STLED325_AT_FLAGS] |= STLED325_ALARM_FLAG;
         report(image, STLED325_INT_RTC);
     }
 }
@@ -51,8 +51,8 @@ static void step_watchdog(uint8_t *image)
     if (left == 0)
         return;
     set_word(image, STLED325_AT_WATCHDOG_LEFT, left - 1);
-    if (left == 1 && (image[STLED325_REG_AL_DAY] & STLED325_WDFEN) != 0) {
-        image[STLED325_AT_FLAGS] |= STLED325_FLAG_WATCHDOG;
+    if (left == 1 && (image[STLED325_REG_ALARM_WEEKDAY] & STLED325_WDFEN) != 0) {
+        image[STLED325_AT_FLAGS] |= STLED325_WATCHDOG_FLAG;
         report(image, STLED325_INT_RTC);
     }
 }
@@ -64,7 +64,7 @@ static void step_guard(uint8_t *image)
     if (left == 0)
         return;
     set_word(image, STLED325_AT_GUARD_LEFT, left - 1);
-    if (left == 1 && (image[STLED325_AT_CONFIGURATION] & STLED325_CFG_GUARD_STBY) != 0)
+    if (left == 1 && (image[STLED325_AT_CONFIGURATION] & STLED325_CFG_GUARD_STANDBY) != 0)
         begin_standby(image);
 }
 

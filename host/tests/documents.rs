@@ -17,18 +17,29 @@ fn read(file: impl AsRef<Path>) -> String {
     fs::read_to_string(&path).unwrap_or_else(|e| panic!("{}: {e}", path.display()))
 }
 
-/// All text of the files below a folder that end so.
-fn below(folder: &Path, ending: &str) -> String {
-    let mut text = String::new();
+/// The files below a folder that end so.
+fn files(folder: &Path, ending: &str) -> Vec<PathBuf> {
+    let mut found = Vec::new();
     for entry in fs::read_dir(folder).into_iter().flatten() {
         let path = entry.unwrap().path();
         if path.is_dir() {
-            text += &below(&path, ending);
+            found.extend(files(&path, ending));
         } else if path.to_string_lossy().ends_with(ending) {
-            text += &fs::read_to_string(&path).unwrap();
+            found.push(path);
         }
     }
-    text
+    found
+}
+
+/// All text of the files below a folder that end so.
+fn below(folder: &Path, ending: &str) -> String {
+    files(folder, ending).iter().map(|path| fs::read_to_string(path).unwrap()).collect()
+}
+
+/// Whether a line lets a proof look into the definition of that name.
+fn unfolds(line: &str, name: &str) -> bool {
+    let mut words = line.split_whitespace();
+    words.next() == Some("unfolding") && words.any(|word| word == name)
 }
 
 /// Whether a line declares the name, behind one of the keywords.
@@ -141,4 +152,17 @@ fn the_documents_count_what_is_there() {
         let krate = line.split(':').next().unwrap();
         assert!(readme.contains(&format!("  {krate} ")), "README.md gives crate {krate} no floor");
     }
+}
+
+#[test]
+fn only_the_two_places_named_look_into_the_leap_rule() {
+    assert!(unfolds("  unfolding month leap", "leap") && !unfolds("unfolding leap-counted", "leap"));
+    assert!(read("crates/calendar/specs/Date.antt").contains("unfoldable pub leap :"));
+    let mut places = Vec::new();
+    for file in files(&top().join("crates"), ".antt") {
+        let lines = read(&file).lines().filter(|line| unfolds(line, "leap")).count();
+        places.extend(vec![file.strip_prefix(top()).unwrap().display().to_string(); lines]);
+    }
+    places.sort();
+    assert_eq!(places, ["crates/calendar/proofs/Date.antt", "crates/calendar/proofs/is_leap/Proof.antt"]);
 }

@@ -1,49 +1,26 @@
 //! The C header's numbers against the model's, so that both name the same bits and places.
 
-use std::collections::HashMap;
+mod numbers;
 
 use stled325_host::model::names::*;
 
-/// The header's `#define`s and enumerators that are plain numbers.
-fn header() -> HashMap<String, u32> {
-    let text = include_str!("../../include/stled325.h");
-    let number = |word: &str| {
-        let word = word.trim_end_matches(['u', 'U', 'L', ',']);
-        match word.strip_prefix("0x") {
-            Some(digits) => u32::from_str_radix(digits, 16).ok(),
-            None => word.parse().ok(),
-        }
-    };
-    let mut numbers = HashMap::new();
-    for line in text.lines() {
-        let words: Vec<&str> = line.split_whitespace().collect();
-        let (name, value) = match words[..] {
-            ["#define", name, value, ..] => (name, value),
-            [name, "=", value, ..] => (name, value),
-            _ => continue,
-        };
-        if let (Some(name), Some(value)) = (name.strip_prefix("STLED325_"), number(value)) {
-            assert!(numbers.insert(name.to_string(), value).is_none(), "{name} is defined twice");
-        }
-    }
-    numbers
-}
+use numbers::{defines, enumerators};
 
 /// The refusal numbers, the longest cut and the ticks of a second.
 const NUMBERS: &[(&str, u32)] = &[
     ("ACCEPTED", refusal::ACCEPTED),
-    ("BAD_IMAGE", refusal::IMAGE),
+    ("BAD_IMAGE", refusal::BAD_IMAGE),
     ("NO_COMMAND", refusal::NO_COMMAND),
-    ("IN_STANDBY", refusal::STANDBY),
-    ("UNKNOWN_COMMAND", refusal::UNKNOWN),
+    ("IN_STANDBY", refusal::IN_STANDBY),
+    ("UNKNOWN_COMMAND", refusal::UNKNOWN_COMMAND),
     ("TOO_SHORT", refusal::TOO_SHORT),
-    ("BAD_ADDRESS", refusal::ADDRESS),
-    ("BAD_PROTOCOL", refusal::PROTOCOL),
-    ("BAD_DIGITS", refusal::DIGITS),
-    ("BAD_CALENDAR", refusal::CALENDAR),
-    ("CUT_TOO_LONG", refusal::TOO_LONG),
+    ("BAD_ADDRESS", refusal::BAD_ADDRESS),
+    ("BAD_PROTOCOL", refusal::BAD_PROTOCOL),
+    ("BAD_DIGITS", refusal::BAD_DIGITS),
+    ("BAD_CALENDAR", refusal::BAD_CALENDAR),
+    ("CUT_TOO_LONG", refusal::CUT_TOO_LONG),
     ("NO_KEY", refusal::NO_KEY),
-    ("BAD_BUFFER", refusal::BUFFER),
+    ("BAD_BUFFER", refusal::BAD_BUFFER),
     ("LONGEST_CUT", LONGEST_CUT),
     ("TICKS_PER_SECOND", PER_SECOND as u32),
 ];
@@ -59,7 +36,7 @@ const PLACES: &[(&str, usize)] = &[
     ("AT_INTERRUPT", INTERRUPT),
     ("AT_PINS", PINS),
     ("AT_CONFIGURATION", CONFIGURATION),
-    ("AT_REMOTE_SETUP", REMOTE_SETUP),
+    ("AT_SETUP", SETUP),
     ("AT_GUARD_LEFT", GUARD_LEFT),
     ("AT_WATCHDOG_LEFT", WATCHDOG_LEFT),
     ("AT_HOT_KEYS", HOT_KEYS),
@@ -77,24 +54,24 @@ const PLACES: &[(&str, usize)] = &[
     ("REG_SECONDS", SECONDS),
     ("REG_MINUTES", MINUTES),
     ("REG_HOURS", HOURS),
-    ("REG_DAY", DAY),
+    ("REG_WEEKDAY", WEEKDAY),
     ("REG_DATE", DATE),
-    ("REG_CENTURY_MONTH", CENTURY_MONTH),
+    ("REG_MONTH", MONTH),
     ("REG_YEAR", YEAR),
     ("REG_CALIBRATION", CALIBRATION),
     ("REG_WATCHDOG", WATCHDOG),
-    ("REG_AL_MONTH", AL_MONTH),
-    ("REG_AL_DATE", AL_DATE),
-    ("REG_AL_HOUR", AL_HOUR),
-    ("REG_AL_MIN", AL_MIN),
-    ("REG_AL_SEC", AL_SEC),
-    ("REG_AL_DAY", AL_DAY),
+    ("REG_ALARM_MONTH", ALARM_MONTH),
+    ("REG_ALARM_DATE", ALARM_DATE),
+    ("REG_ALARM_HOUR", ALARM_HOUR),
+    ("REG_ALARM_MINUTE", ALARM_MINUTE),
+    ("REG_ALARM_SECOND", ALARM_SECOND),
+    ("REG_ALARM_WEEKDAY", ALARM_WEEKDAY),
 ];
 
 /// Bits, masks and command codes.
 const BYTES: &[(&str, u8)] = &[
-    ("FLAG_ALARM", ALARM_FLAG),
-    ("FLAG_WATCHDOG", WATCHDOG_FLAG),
+    ("ALARM_FLAG", ALARM_FLAG),
+    ("WATCHDOG_FLAG", WATCHDOG_FLAG),
     ("INT_KEY", 0x80),
     ("INT_REMOTE", 0x40),
     ("INT_WAKE_UP", 0x20),
@@ -113,7 +90,7 @@ const BYTES: &[(&str, u8)] = &[
     ("MD_H", MD_H),
     ("M_MS", M_MS),
     ("CB", 0xC0),
-    ("12_24", TWELVE_HOURS),
+    ("TWELVE_HOURS", TWELVE_HOURS),
     ("CAL_SIGN", 0x20),
     ("RB2", 0x80),
     ("BMB", 0x7C),
@@ -133,18 +110,18 @@ const BYTES: &[(&str, u8)] = &[
     ("CMD_WRITE_REGISTERS", 0x50),
     ("CMD_READ_KEYS", 0x61),
     ("CMD_READ_REMOTE", 0x62),
-    ("CMD_READ_INTERRUPT", 0x63),
+    ("CMD_READ_INTERRUPTS", 0x63),
     ("CMD_READ_REGISTERS", 0x70),
-    ("CMD_DISPLAY", 0x80),
-    ("CMD_HOT_KEYS", 0xA0),
+    ("CMD_SET_DISPLAY", 0x80),
+    ("CMD_SET_HOT_KEYS", 0xA0),
     ("CMD_STANDBY", 0xC1),
     ("CMD_RELOAD_GUARD", 0xC2),
-    ("CFG_GUARD_STBY", GUARD_TO_STBY),
-    ("CFG_ALL_HOT", ALL_KEYS_HOT),
-    ("CFG_REMOTE_WAKE", REMOTE_WAKES),
-    ("CFG_RTC_FACE", RTC_FACE),
-    ("CFG_SET_DIGITS", SETS_DIGITS),
-    ("CFG_WAKE_UP", WAKE_UP_COUNTS),
+    ("CFG_GUARD_STANDBY", GUARD_STANDBY),
+    ("CFG_ALL_HOT", ALL_HOT),
+    ("CFG_REMOTE_WAKES", REMOTE_WAKES),
+    ("CFG_CLOCK_FACE", CLOCK_FACE),
+    ("CFG_GIVES_DIGITS", GIVES_DIGITS),
+    ("CFG_WAKE_UP_COUNTS", WAKE_UP_COUNTS),
     ("PROTOCOL_OFF", PROTOCOL_OFF << 4),
     ("PROTOCOL_RC5", RC5 << 4),
     ("PROTOCOL_NEC", NEC << 4),
@@ -156,7 +133,10 @@ const BYTES: &[(&str, u8)] = &[
 
 #[test]
 fn the_header_names_the_same_numbers() {
-    let mut header = header();
+    let mut header = defines();
+    for (name, number) in enumerators() {
+        assert!(header.insert(name, number).is_none(), "{name} is defined twice");
+    }
     let places = PLACES.iter().map(|&(name, place)| (name, place as u32));
     let bytes = BYTES.iter().map(|&(name, byte)| (name, u32::from(byte)));
     for (name, number) in NUMBERS.iter().copied().chain(places).chain(bytes) {

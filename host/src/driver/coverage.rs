@@ -29,7 +29,7 @@ marks! {
     WriteRegisters: "accepted: 50h",
     ReadKeys: "accepted: 61h",
     ReadRemote: "accepted: 62h",
-    ReadInterrupt: "accepted: 63h",
+    ReadInterrupts: "accepted: 63h",
     ReadRegisters: "accepted: 70h",
     SetDisplay: "accepted: 100xxxxx",
     SetHotKeys: "accepted: A0h",

@@ -34,9 +34,9 @@ pub fn broken_in(image: &Image, clause: Clause, random: &mut Random) -> Image {
         Clause::Pins => image[PINS] |= some_bits(random, 0xF8),
         Clause::ConfigurationB4 => image[CONFIGURATION] |= 0x10,
         Clause::ConfigurationB6B7 => image[CONFIGURATION] |= some_bits(random, 0xC0),
-        Clause::RemoteSetupB7 => image[REMOTE_SETUP] |= 0x80,
+        Clause::SetupB7 => image[SETUP] |= 0x80,
         Clause::Protocol => {
-            image[REMOTE_SETUP] = image[REMOTE_SETUP] & 0x0F | random.pick(&[1, 3, 5, 6, 7]) << 4;
+            image[SETUP] = image[SETUP] & 0x0F | random.pick(&[1, 3, 5, 6, 7]) << 4;
         }
         Clause::GuardWithinValue => {
             image[PINS] &= !STBY;
@@ -65,7 +65,7 @@ pub fn broken_in(image: &Image, clause: Clause, random: &mut Random) -> Image {
 /// Puts a date into the calendar that its month lacks.
 fn break_date(image: &mut Image, random: &mut Random) {
     let month = random.pick(&[2, 4, 6, 9, 11]);
-    image[CENTURY_MONTH] = image[CENTURY_MONTH] & 0xC0 | to_bcd(month);
+    image[MONTH] = image[MONTH] & 0xC0 | to_bcd(month);
     let length = month_length(month, is_leap(from_bcd(image[YEAR])));
     image[DATE] = to_bcd(random.from_to(length + 1, 31));
 }
@@ -73,7 +73,7 @@ fn break_date(image: &mut Image, random: &mut Random) {
 /// Lets the guard run within its value while STBY is high.
 fn run_guard_in_standby(image: &mut Image, random: &mut Random) {
     image[PINS] |= STBY;
-    image[REMOTE_SETUP] |= random.from_to(1, 15) as u8;
+    image[SETUP] |= random.from_to(1, 15) as u8;
     let left = random.from_to(1, u32::from(guard_load(image)));
     set_word(image, GUARD_LEFT, left as u16);
 }
@@ -86,7 +86,7 @@ fn break_nibbles(image: &mut Image, at: usize, random: &mut Random) {
         MINUTES => image[at] = (random.below(4) as u8) << 4 | units,
         HOURS => image[at] = image[at] & (MD_H | M_MS) | units,
         DATE => image[at] = units,
-        CENTURY_MONTH => {
+        MONTH => {
             // Month 0Ah to 0Ch counts as 10 to 12; the date is then in any month.
             image[at] = image[at] & 0xC0 | random.from_to(10, 12) as u8;
             image[DATE] = image[DATE].min(0x28);
@@ -107,9 +107,9 @@ fn break_range(image: &mut Image, at: usize, random: &mut Random) {
         SECONDS => image[at] = image[at] & OSC_ST | to_bcd(random.from_to(60, 79)),
         MINUTES => image[at] = to_bcd(random.from_to(60, 79)),
         HOURS => image[at] = image[at] & (MD_H | M_MS) | to_bcd(random.from_to(24, 39)),
-        DAY => image[at] = 0,
+        WEEKDAY => image[at] = 0,
         DATE => image[at] = 0,
-        CENTURY_MONTH => {
+        MONTH => {
             let month = if random.once_in(2) { 0 } else { random.from_to(13, 19) };
             image[at] = image[at] & 0xC0 | to_bcd(month);
         }

@@ -36,7 +36,7 @@ fn rc5_frame(toggle: u32, address: u32, command: u32) -> u32 {
 
 /// A frame of either protocol: a key, nearly a key, or anything.
 pub fn random_frame(image: &Image, random: &mut Random) -> u32 {
-    let set = image[REMOTE_SETUP] >> 4;
+    let set = image[SETUP] >> 4;
     let nec = if random.once_in(6) { set != NEC } else { set == NEC };
     let (toggle, command) = (random.below(2), random.byte());
     let key = if nec { nec_frame(0, command) } else { rc5_frame(toggle, 0, u32::from(command) & 0x3F) };
@@ -83,13 +83,13 @@ fn random_span(image: &Image, registers: &mut [u8; 16], random: &mut Random) -> 
     match random.below(8) {
         0 | 1 => SECONDS..YEAR + 1,
         2 => DATE..YEAR + 1,
-        3 => DATE + random.below(2) as usize..CENTURY_MONTH + 1,
+        3 => DATE + random.below(2) as usize..MONTH + 1,
         4 => {
             let mut aimed = *image;
             let ahead = random.below(4);
             aim_alarm(&mut aimed, random, ahead);
-            registers[AL_MONTH..].copy_from_slice(&aimed[AL_MONTH..16]);
-            AL_MONTH..16
+            registers[ALARM_MONTH..].copy_from_slice(&aimed[ALARM_MONTH..16]);
+            ALARM_MONTH..16
         }
         5 => {
             let any = random.byte();
@@ -143,7 +143,7 @@ fn right_command(image: &Image, random: &mut Random) -> (Vec<u8>, usize) {
             let setup = any & 0x80 | protocol << 4 | random.pick(&[0, 1, 2, any & 0x0F]);
             let first = random.byte() & 0x3F;
             let digits = random.pick(&[image[DIGITS], 1, 2, 3, 4, 5, 0, 6, any]);
-            let length = if first & SETS_DIGITS == 0 { 2 } else { 3 };
+            let length = if first & GIVES_DIGITS == 0 { 2 } else { 3 };
             (vec![first, setup, digits][..length].to_vec(), 0)
         }
         4 | 5 => {

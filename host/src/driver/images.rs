@@ -51,21 +51,21 @@ pub fn random_moment(random: &mut Random) -> Moment {
 pub fn aim_alarm(image: &mut Image, random: &mut Random, ahead: u32) {
     let mut at = [0; 16];
     Moment::of_registers(&image[..]).later(ahead).write(&mut at);
-    image[AL_MONTH] = random.byte() & (AFE | ABE) | if random.once_in(3) { 0 } else { AFE | ABE };
-    image[AL_MONTH] |= at[CENTURY_MONTH] & 0x1F;
-    image[AL_DATE] = at[DATE];
-    image[AL_HOUR] = at[HOURS];
-    image[AL_MIN] = at[MINUTES];
-    image[AL_SEC] = at[SECONDS];
-    image[AL_DAY] = image[AL_DAY] & WDFEN | at[DAY] << 4;
+    image[ALARM_MONTH] = random.byte() & (AFE | ABE) | if random.once_in(3) { 0 } else { AFE | ABE };
+    image[ALARM_MONTH] |= at[MONTH] & 0x1F;
+    image[ALARM_DATE] = at[DATE];
+    image[ALARM_HOUR] = at[HOURS];
+    image[ALARM_MINUTE] = at[MINUTES];
+    image[ALARM_SECOND] = at[SECONDS];
+    image[ALARM_WEEKDAY] = image[ALARM_WEEKDAY] & WDFEN | at[WEEKDAY] << 4;
     if random.once_in(3) {
-        let spoilt = AL_MONTH + random.below(6) as usize;
-        let bits = [0x1F, 0x3F, 0x3F, 0x7F, 0x7F, 0x70][spoilt - AL_MONTH];
+        let spoilt = ALARM_MONTH + random.below(6) as usize;
+        let bits = [0x1F, 0x3F, 0x3F, 0x7F, 0x7F, 0x70][spoilt - ALARM_MONTH];
         image[spoilt] ^= match random.below(3) {
             0 => 1 << random.below(8) & bits,
             1 => random.byte() & bits,
             // Moves ten units into the lower nibble, which is then no BCD any more.
-            _ if spoilt != AL_DAY && image[spoilt] & 0x10 != 0 && image[spoilt] & 0x0F <= 5 => {
+            _ if spoilt != ALARM_WEEKDAY && image[spoilt] & 0x10 != 0 && image[spoilt] & 0x0F <= 5 => {
                 image[spoilt] ^ (image[spoilt] - 0x06)
             }
             _ => 0,
@@ -85,10 +85,10 @@ fn set_repeats(image: &mut Image, random: &mut Random) {
         5 => (RPT5, RPT6, 0, 0),
         _ => (random.byte() & 0xC0, random.byte() & 0xC0, random.byte() & 0x80, random.byte() & 0x80),
     };
-    image[AL_DATE] = image[AL_DATE] & 0x3F | date;
-    image[AL_HOUR] = image[AL_HOUR] & 0x3F | hour;
-    image[AL_MIN] = image[AL_MIN] & 0x7F | minute;
-    image[AL_SEC] = image[AL_SEC] & 0x7F | second;
+    image[ALARM_DATE] = image[ALARM_DATE] & 0x3F | date;
+    image[ALARM_HOUR] = image[ALARM_HOUR] & 0x3F | hour;
+    image[ALARM_MINUTE] = image[ALARM_MINUTE] & 0x7F | minute;
+    image[ALARM_SECOND] = image[ALARM_SECOND] & 0x7F | second;
 }
 
 /// A rest from 0 to `most`, often 0, 1 or the most.
@@ -123,7 +123,7 @@ fn random_registers(image: &mut Image, random: &mut Random) {
     random_moment(random).write(&mut image[..]);
 }
 
-/// Draws bytes 16 to 21, from the sixteenths to the remote setup.
+/// Draws bytes 16 to 21, from the sixteenths to the set-up.
 fn random_state(image: &mut Image, random: &mut Random) {
     image[SIXTEENTHS] = if random.once_in(2) { 15 } else { random.below(16) as u8 };
     image[FLAGS] = random.below(4) as u8;
@@ -132,7 +132,7 @@ fn random_state(image: &mut Image, random: &mut Random) {
     image[CONFIGURATION] = random.byte() & 0x2F;
     let protocol = random.pick(&[PROTOCOL_OFF, RC5, NEC, NEC]);
     let guard_value = if random.once_in(2) { random.below(3) } else { random.below(16) };
-    image[REMOTE_SETUP] = protocol << 4 | guard_value as u8;
+    image[SETUP] = protocol << 4 | guard_value as u8;
 }
 
 /// Draws what is left of the guard and of the watchdog; in standby no guard runs.

@@ -50,9 +50,9 @@ fn tick(coverage: &mut Coverage, before: &Image, after: &Image) {
     let runs = !has(before, SECONDS, OSC_ST);
     let second = runs && before[SIXTEENTHS] == 15;
     let fits = second && matches_now(&after[..]);
-    let matched = fits && has(before, AL_MONTH, AFE);
+    let matched = fits && has(before, ALARM_MONTH, AFE);
     let watchdog = runs && word(before, WATCHDOG_LEFT) == 1;
-    let watchdog_event = watchdog && has(before, AL_DAY, WDFEN);
+    let watchdog_event = watchdog && has(before, ALARM_WEEKDAY, WDFEN);
     let guard_end = word(before, GUARD_LEFT) == 1;
     let mut mark = |holds: bool, mark: Mark| {
         if holds {
@@ -73,7 +73,7 @@ fn tick(coverage: &mut Coverage, before: &Image, after: &Image) {
     mark(watchdog && !watchdog_event, Mark::WatchdogSilent);
     mark(guard_end && !in_standby(after), Mark::GuardSilent);
     mark(!runs && word(before, GUARD_LEFT) != 0, Mark::GuardStopped);
-    if second && before[DAY] != after[DAY] {
+    if second && before[WEEKDAY] != after[WEEKDAY] {
         midnight(coverage, before, after);
     }
 }
@@ -102,7 +102,7 @@ fn command(coverage: &mut Coverage, before: &Image, bytes: &[u8]) {
         return;
     };
     coverage.mark(match command {
-        Command::Configure => match bytes[0] & SETS_DIGITS {
+        Command::Configure => match bytes[0] & GIVES_DIGITS {
             0 => Mark::Configure,
             _ if bytes[2] == before[DIGITS] => Mark::ConfigureSameDigits,
             _ => Mark::ConfigureNewDigits,
@@ -111,7 +111,7 @@ fn command(coverage: &mut Coverage, before: &Image, bytes: &[u8]) {
         Command::WriteRegisters => Mark::WriteRegisters,
         Command::ReadKeys => Mark::ReadKeys,
         Command::ReadRemote => Mark::ReadRemote,
-        Command::ReadInterrupt => Mark::ReadInterrupt,
+        Command::ReadInterrupts => Mark::ReadInterrupts,
         Command::ReadRegisters => Mark::ReadRegisters,
         Command::SetDisplay => Mark::SetDisplay,
         Command::SetHotKeys => Mark::SetHotKeys,
@@ -136,7 +136,7 @@ fn key_sample(coverage: &mut Coverage, before: &Image, after: &Image) {
         coverage.mark(Mark::KeyAwake);
     } else if !ended(before, after) {
         coverage.mark(Mark::KeyCold);
-    } else if has(before, CONFIGURATION, ALL_KEYS_HOT) {
+    } else if has(before, CONFIGURATION, ALL_HOT) {
         coverage.mark(Mark::EndsByAnyKey);
     } else {
         coverage.mark(Mark::EndsByMaskedKey);
@@ -144,7 +144,7 @@ fn key_sample(coverage: &mut Coverage, before: &Image, after: &Image) {
 }
 
 fn remote_frame(coverage: &mut Coverage, before: &Image, after: &Image) {
-    let nec = before[REMOTE_SETUP] >> 4 == NEC;
+    let nec = before[SETUP] >> 4 == NEC;
     coverage.mark(if nec { Mark::RemoteNec } else { Mark::RemoteRc5 });
     coverage.mark(match (in_standby(before), in_standby(after)) {
         (false, _) => Mark::RemoteAwake,
@@ -210,7 +210,7 @@ fn cut_alarm(coverage: &mut Coverage, before: &Image, n: u32) {
     let start = Moment::of_registers(&before[..]);
     let alarm = Alarm::of_registers(&before[..]);
     let within = |count: u32| alarm.matches_within(start, count);
-    coverage.mark(if before[AL_MONTH] & (AFE | ABE) != AFE | ABE {
+    coverage.mark(if before[ALARM_MONTH] & (AFE | ABE) != AFE | ABE {
         if !within(n) {
             return;
         }
@@ -227,7 +227,7 @@ fn cut_alarm(coverage: &mut Coverage, before: &Image, n: u32) {
 }
 
 fn show(coverage: &mut Coverage, image: &Image) {
-    let face = has(image, CONFIGURATION, RTC_FACE);
+    let face = has(image, CONFIGURATION, CLOCK_FACE);
     coverage.mark(if !has(image, DISPLAY_CONTROL, DISPLAY_ON) || in_standby(image) && !face {
         Mark::ShowDark
     } else if face && image[DIGITS] >= 4 {

@@ -59,7 +59,7 @@ impl Series {
         let end = from.count() + if runs { self.sum() } else { 0 };
         let midnights = end / u64::from(SECONDS_PER_DAY) - from.count() / u64::from(SECONDS_PER_DAY);
         let weekday = ((u64::from(from.weekday) - 1 + midnights) % 7 + 1) as u32;
-        let both = start[AL_MONTH] & (AFE | ABE) == AFE | ABE;
+        let both = start[ALARM_MONTH] & (AFE | ABE) == AFE | ABE;
         let alarm = Alarm::of_registers(&start[..]);
         let mut reached = from;
         let mut matched = false;

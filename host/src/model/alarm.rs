@@ -9,12 +9,12 @@ use super::names::*;
 /// The clock's bytes are sound BCD, so alarm bits that are no possible time equal none of them.
 pub fn matches_now(registers: &[u8]) -> bool {
     let free = |at: usize, repeat: u8| registers[at] & repeat != 0;
-    (free(AL_SEC, RPT1) || registers[AL_SEC] & 0x7F == registers[SECONDS] & 0x7F)
-        && (free(AL_MIN, RPT2) || registers[AL_MIN] & 0x7F == registers[MINUTES])
-        && (free(AL_HOUR, RPT3) || registers[AL_HOUR] & 0x3F == registers[HOURS] & 0x3F)
-        && (free(AL_DATE, RPT4) || registers[AL_DATE] & 0x3F == registers[DATE])
-        && (free(AL_DATE, RPT5) || registers[AL_MONTH] & 0x1F == registers[CENTURY_MONTH] & 0x1F)
-        && (free(AL_HOUR, RPT6) || registers[AL_DAY] >> 4 & 0x07 == registers[DAY])
+    (free(ALARM_SECOND, RPT1) || registers[ALARM_SECOND] & 0x7F == registers[SECONDS] & 0x7F)
+        && (free(ALARM_MINUTE, RPT2) || registers[ALARM_MINUTE] & 0x7F == registers[MINUTES])
+        && (free(ALARM_HOUR, RPT3) || registers[ALARM_HOUR] & 0x3F == registers[HOURS] & 0x3F)
+        && (free(ALARM_DATE, RPT4) || registers[ALARM_DATE] & 0x3F == registers[DATE])
+        && (free(ALARM_DATE, RPT5) || registers[ALARM_MONTH] & 0x1F == registers[MONTH] & 0x1F)
+        && (free(ALARM_HOUR, RPT6) || registers[ALARM_WEEKDAY] >> 4 & 0x07 == registers[WEEKDAY])
 }
 
 /// What one field of the alarm asks of the clock.
@@ -70,12 +70,12 @@ impl Alarm {
     pub fn of_registers(registers: &[u8]) -> Alarm {
         let free = |at: usize, repeat: u8| registers[at] & repeat != 0;
         Alarm {
-            second: Asked::of(free(AL_SEC, RPT1), registers[AL_SEC] & 0x7F, 0, 59),
-            minute: Asked::of(free(AL_MIN, RPT2), registers[AL_MIN] & 0x7F, 0, 59),
-            hour: Asked::of(free(AL_HOUR, RPT3), registers[AL_HOUR] & 0x3F, 0, 23),
-            date: Asked::of(free(AL_DATE, RPT4), registers[AL_DATE] & 0x3F, 1, 31),
-            month: Asked::of(free(AL_DATE, RPT5), registers[AL_MONTH] & 0x1F, 1, 12),
-            weekday: Asked::of(free(AL_HOUR, RPT6), registers[AL_DAY] >> 4 & 0x07, 1, 7),
+            second: Asked::of(free(ALARM_SECOND, RPT1), registers[ALARM_SECOND] & 0x7F, 0, 59),
+            minute: Asked::of(free(ALARM_MINUTE, RPT2), registers[ALARM_MINUTE] & 0x7F, 0, 59),
+            hour: Asked::of(free(ALARM_HOUR, RPT3), registers[ALARM_HOUR] & 0x3F, 0, 23),
+            date: Asked::of(free(ALARM_DATE, RPT4), registers[ALARM_DATE] & 0x3F, 1, 31),
+            month: Asked::of(free(ALARM_DATE, RPT5), registers[ALARM_MONTH] & 0x1F, 1, 12),
+            weekday: Asked::of(free(ALARM_HOUR, RPT6), registers[ALARM_WEEKDAY] >> 4 & 0x07, 1, 7),
         }
     }
 

@@ -83,9 +83,9 @@ impl Moment {
     /// The moment that valid registers hold.
     pub fn of_registers(registers: &[u8]) -> Moment {
         let date = Date {
-            century: u32::from(registers[CENTURY_MONTH] >> 6),
+            century: u32::from(registers[MONTH] >> 6),
             year: from_bcd(registers[YEAR]),
-            month: from_bcd(registers[CENTURY_MONTH] & 0x1F),
+            month: from_bcd(registers[MONTH] & 0x1F),
             date: from_bcd(registers[DATE]),
         };
         Moment {
@@ -93,7 +93,7 @@ impl Moment {
             second: 3_600 * from_bcd(registers[HOURS] & 0x3F)
                 + 60 * from_bcd(registers[MINUTES])
                 + from_bcd(registers[SECONDS] & 0x7F),
-            weekday: u32::from(registers[DAY]),
+            weekday: u32::from(registers[WEEKDAY]),
         }
     }
 
@@ -123,9 +123,9 @@ impl Moment {
         registers[SECONDS] = registers[SECONDS] & OSC_ST | to_bcd(self.second % 60);
         registers[MINUTES] = to_bcd(self.second / 60 % 60);
         registers[HOURS] = registers[HOURS] & (MD_H | M_MS) | to_bcd(self.second / 3_600);
-        registers[DAY] = self.weekday as u8;
+        registers[WEEKDAY] = self.weekday as u8;
         registers[DATE] = to_bcd(date);
-        registers[CENTURY_MONTH] = (century << 6) as u8 | to_bcd(month);
+        registers[MONTH] = (century << 6) as u8 | to_bcd(month);
         registers[YEAR] = to_bcd(year);
     }
 }

@@ -15,7 +15,7 @@ pub enum Command {
     WriteRegisters,
     ReadKeys,
     ReadRemote,
-    ReadInterrupt,
+    ReadInterrupts,
     ReadRegisters,
     SetDisplay,
     SetHotKeys,
@@ -34,7 +34,7 @@ impl Command {
             0x50 => WriteRegisters,
             0x61 => ReadKeys,
             0x62 => ReadRemote,
-            0x63 => ReadInterrupt,
+            0x63 => ReadInterrupts,
             0x70 => ReadRegisters,
             0x80..=0x9F => SetDisplay,
             0xA0 => SetHotKeys,
@@ -47,17 +47,17 @@ impl Command {
     /// The bytes it needs, its own first byte among them.
     fn length(self, first: u8) -> usize {
         match self {
-            Configure if first & SETS_DIGITS != 0 => 3,
+            Configure if first & GIVES_DIGITS != 0 => 3,
             Configure | ReadRegisters => 2,
             WriteDigits | WriteRegisters | SetHotKeys => 3,
-            ReadKeys | ReadRemote | ReadInterrupt | SetDisplay | Standby | ReloadGuard => 1,
+            ReadKeys | ReadRemote | ReadInterrupts | SetDisplay | Standby | ReloadGuard => 1,
         }
     }
 
     /// The output it needs.
     fn output(self) -> usize {
         match self {
-            ReadKeys | ReadInterrupt => 2,
+            ReadKeys | ReadInterrupts => 2,
             ReadRemote => 3,
             _ => 0,
         }
@@ -113,35 +113,35 @@ impl Model {
         };
         let listed = Command::of_byte(first);
         if self.has(Fault::ThreeAfterFour) && listed.is_none() {
-            return refusal::UNKNOWN;
+            return refusal::UNKNOWN_COMMAND;
         }
         if in_standby(image) {
-            return refusal::STANDBY;
+            return refusal::IN_STANDBY;
         }
         let Some(command) = listed else {
-            return refusal::UNKNOWN;
+            return refusal::UNKNOWN_COMMAND;
         };
         let address_wrong = match (command.addresses(), bytes.get(1)) {
             (Some(addresses), Some(address)) => !addresses.contains(address),
             _ => false,
         };
         if self.has(Fault::SixBeforeFive) && address_wrong {
-            return refusal::ADDRESS;
+            return refusal::BAD_ADDRESS;
         }
         if bytes.len() < command.length(first) || out_len < command.output() {
             return refusal::TOO_SHORT;
         }
         if address_wrong {
-            return refusal::ADDRESS;
+            return refusal::BAD_ADDRESS;
         }
         if command == Configure && !protocol_listed(bytes[1]) {
-            return refusal::PROTOCOL;
+            return refusal::BAD_PROTOCOL;
         }
-        if command == Configure && first & SETS_DIGITS != 0 && !(1..=5).contains(&bytes[2]) {
-            return refusal::DIGITS;
+        if command == Configure && first & GIVES_DIGITS != 0 && !(1..=5).contains(&bytes[2]) {
+            return refusal::BAD_DIGITS;
         }
         if command == WriteRegisters && self.write_spoils(image, usize::from(bytes[1]), &bytes[2..]) {
-            return refusal::CALENDAR;
+            return refusal::BAD_CALENDAR;
         }
         refusal::ACCEPTED
     }
@@ -160,7 +160,7 @@ impl Model {
             WriteRegisters => self.write_registers(image, usize::from(bytes[1]), &bytes[2..]),
             ReadKeys => self.reply_and_clear(image, KEY_STORE..KEY_STORE + 2, out),
             ReadRemote => self.reply_and_clear(image, REMOTE_FRESH..REMOTE_FRESH + 3, out),
-            ReadInterrupt => {
+            ReadInterrupts => {
                 let (interrupt, flags) = (image[INTERRUPT], image[FLAGS]);
                 let exchanged = self.has(Fault::InterruptExchanged);
                 self.reply(&if exchanged { [flags, interrupt] } else { [interrupt, flags] }, out);
@@ -184,9 +184,9 @@ impl Model {
     fn configure(&self, image: &mut Image, bytes: &[u8]) {
         let kept = if self.has(Fault::ConfigurationB4Kept) { 0x3F } else { 0x2F };
         image[CONFIGURATION] = bytes[0] & kept;
-        image[REMOTE_SETUP] = bytes[1] & 0x7F;
+        image[SETUP] = bytes[1] & 0x7F;
         set_word(image, GUARD_LEFT, guard_load(image));
-        if bytes[0] & SETS_DIGITS != 0 {
+        if bytes[0] & GIVES_DIGITS != 0 {
             if bytes[2] != image[DIGITS] || self.has(Fault::DisplayOffAlways) {
                 image[DISPLAY_CONTROL] &= if self.has(Fault::BrightnessLost) { 0 } else { !DISPLAY_ON };
             }

@@ -32,7 +32,7 @@ impl Model {
     fn face(&self, image: &Image) -> [u8; 5] {
         let both = |byte: u8| (font(byte >> 4), font(byte & 0x0F));
         let (left, right) = if has(image, HOURS, MD_H) {
-            (both(image[CENTURY_MONTH] & 0x1F), both(image[DATE]))
+            (both(image[MONTH] & 0x1F), both(image[DATE]))
         } else if has(image, HOURS, M_MS) {
             (both(image[MINUTES]), both(image[SECONDS] & 0x7F))
         } else {
@@ -44,7 +44,7 @@ impl Model {
     }
 
     pub(super) fn shown(&self, image: &Image) -> [u8; 5] {
-        let asked = has(image, CONFIGURATION, RTC_FACE);
+        let asked = has(image, CONFIGURATION, CLOCK_FACE);
         let enough = image[DIGITS] >= 4;
         if !has(image, DISPLAY_CONTROL, DISPLAY_ON) || in_standby(image) && !asked {
             return [0; 5];

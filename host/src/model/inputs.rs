@@ -16,7 +16,7 @@ impl Model {
         let held = word(image, ACCEPTED_KEYS);
         let pressed = if self.has(Fault::HeldKeyIsNew) { sample } else { sample & !held };
         set_word(image, ACCEPTED_KEYS, sample);
-        let all_hot = !in_standby(image) || has(image, CONFIGURATION, ALL_KEYS_HOT);
+        let all_hot = !in_standby(image) || has(image, CONFIGURATION, ALL_HOT);
         let counted = if all_hot { pressed } else { pressed & word(image, HOT_KEYS) };
         let joining = if self.has(Fault::ColdKeysStored) { pressed } else { counted };
         let store = word(image, KEY_STORE) | joining;
@@ -28,7 +28,7 @@ impl Model {
 
     /// Takes the frame if it is a key of the set protocol, and says whether it was.
     pub(super) fn do_remote_frame(&self, image: &mut Image, frame: u32) -> bool {
-        let Some(command) = key_of(self, image[REMOTE_SETUP] >> 4 & 0x07, frame) else {
+        let Some(command) = key_of(self, image[SETUP] >> 4 & 0x07, frame) else {
             return false;
         };
         image[REMOTE_FRESH] = 1;

@@ -62,7 +62,7 @@ impl Model {
 
     pub fn power_up(&self, image: &mut [u8]) -> u32 {
         let Ok(image) = image.try_into() else {
-            return refusal::IMAGE;
+            return refusal::BAD_IMAGE;
         };
         self.do_power_up(image);
         refusal::ACCEPTED
@@ -70,7 +70,7 @@ impl Model {
 
     pub fn tick(&self, image: &mut [u8]) -> u32 {
         let Some(image) = self.sound(image) else {
-            return refusal::IMAGE;
+            return refusal::BAD_IMAGE;
         };
         self.do_tick(image);
         refusal::ACCEPTED
@@ -78,7 +78,7 @@ impl Model {
 
     pub fn command(&self, image: &mut [u8], bytes: &[u8], out: &mut [u8]) -> u32 {
         let Some(image) = self.sound(image) else {
-            return refusal::IMAGE;
+            return refusal::BAD_IMAGE;
         };
         let number = self.command_refusal(image, bytes, out.len());
         if number == refusal::ACCEPTED {
@@ -89,7 +89,7 @@ impl Model {
 
     pub fn key_sample(&self, image: &mut [u8], sample: u16) -> u32 {
         let Some(image) = self.sound(image) else {
-            return refusal::IMAGE;
+            return refusal::BAD_IMAGE;
         };
         self.do_key_sample(image, sample);
         refusal::ACCEPTED
@@ -97,7 +97,7 @@ impl Model {
 
     pub fn remote_frame(&self, image: &mut [u8], frame: u32) -> u32 {
         let Some(image) = self.sound(image) else {
-            return refusal::IMAGE;
+            return refusal::BAD_IMAGE;
         };
         if self.do_remote_frame(image, frame) {
             refusal::ACCEPTED
@@ -108,7 +108,7 @@ impl Model {
 
     pub fn ready(&self, image: &mut [u8], level: u32) -> u32 {
         let Some(image) = self.sound(image) else {
-            return refusal::IMAGE;
+            return refusal::BAD_IMAGE;
         };
         self.do_ready(image, level != 0);
         refusal::ACCEPTED
@@ -116,7 +116,7 @@ impl Model {
 
     pub fn wake_up(&self, image: &mut [u8], level: u32) -> u32 {
         let Some(image) = self.sound(image) else {
-            return refusal::IMAGE;
+            return refusal::BAD_IMAGE;
         };
         self.do_wake_up(image, level != 0);
         refusal::ACCEPTED
@@ -124,7 +124,7 @@ impl Model {
 
     pub fn supply_return(&self, image: &mut [u8], seconds: u32) -> u32 {
         let Some(image) = self.sound(image) else {
-            return refusal::IMAGE;
+            return refusal::BAD_IMAGE;
         };
         let limit = match self.fault {
             Some(Fault::LimitTooLow) => LONGEST_CUT - 1,
@@ -132,7 +132,7 @@ impl Model {
             _ => LONGEST_CUT,
         };
         if seconds > limit {
-            return refusal::TOO_LONG;
+            return refusal::CUT_TOO_LONG;
         }
         self.do_supply_return(image, seconds);
         refusal::ACCEPTED
@@ -140,10 +140,10 @@ impl Model {
 
     pub fn show(&self, image: &[u8], digits: &mut [u8]) -> u32 {
         let Some(image) = self.sound_to_read(image) else {
-            return refusal::IMAGE;
+            return refusal::BAD_IMAGE;
         };
         if digits.len() != 5 {
-            return refusal::BUFFER;
+            return refusal::BAD_BUFFER;
         }
         digits.copy_from_slice(&self.shown(image));
         refusal::ACCEPTED
@@ -151,10 +151,10 @@ impl Model {
 
     pub fn lines(&self, image: &[u8], lines: &mut [u8]) -> u32 {
         let Some(image) = self.sound_to_read(image) else {
-            return refusal::IMAGE;
+            return refusal::BAD_IMAGE;
         };
         if lines.len() != 1 {
-            return refusal::BUFFER;
+            return refusal::BAD_BUFFER;
         }
         lines[0] = self.lines_of(image);
         refusal::ACCEPTED

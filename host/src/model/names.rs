@@ -1,4 +1,4 @@
-//! The image's offsets, the register addresses and every bit, named as in the datasheet.
+//! The image's offsets, the register addresses, the bits and the refusal numbers, named as in the C header.
 
 /// Length of the lent image.
 pub const IMAGE_LEN: usize = 64;
@@ -12,7 +12,7 @@ pub const FLAGS: usize = 17;
 pub const INTERRUPT: usize = 18;
 pub const PINS: usize = 19;
 pub const CONFIGURATION: usize = 20;
-pub const REMOTE_SETUP: usize = 21;
+pub const SETUP: usize = 21;
 pub const GUARD_LEFT: usize = 22;
 pub const WATCHDOG_LEFT: usize = 24;
 pub const HOT_KEYS: usize = 26;
@@ -32,18 +32,18 @@ pub const RESERVED: usize = 0x00;
 pub const SECONDS: usize = 0x01;
 pub const MINUTES: usize = 0x02;
 pub const HOURS: usize = 0x03;
-pub const DAY: usize = 0x04;
+pub const WEEKDAY: usize = 0x04;
 pub const DATE: usize = 0x05;
-pub const CENTURY_MONTH: usize = 0x06;
+pub const MONTH: usize = 0x06; // CB1, CB0, month
 pub const YEAR: usize = 0x07;
 pub const CALIBRATION: usize = 0x08;
 pub const WATCHDOG: usize = 0x09;
-pub const AL_MONTH: usize = 0x0A;
-pub const AL_DATE: usize = 0x0B;
-pub const AL_HOUR: usize = 0x0C;
-pub const AL_MIN: usize = 0x0D;
-pub const AL_SEC: usize = 0x0E;
-pub const AL_DAY: usize = 0x0F;
+pub const ALARM_MONTH: usize = 0x0A;
+pub const ALARM_DATE: usize = 0x0B;
+pub const ALARM_HOUR: usize = 0x0C;
+pub const ALARM_MINUTE: usize = 0x0D;
+pub const ALARM_SECOND: usize = 0x0E;
+pub const ALARM_WEEKDAY: usize = 0x0F;
 
 // Bits of the clock registers.
 pub const OSC_ST: u8 = 0x80; // 01h
@@ -70,11 +70,11 @@ pub const WAKE_UP: u8 = 0x02;
 pub const STBY: u8 = 0x04;
 
 // Configuration, byte 20.
-pub const GUARD_TO_STBY: u8 = 0x01; // b0
-pub const ALL_KEYS_HOT: u8 = 0x02; // b1
+pub const GUARD_STANDBY: u8 = 0x01; // b0
+pub const ALL_HOT: u8 = 0x02; // b1
 pub const REMOTE_WAKES: u8 = 0x04; // b2
-pub const RTC_FACE: u8 = 0x08; // b3
-pub const SETS_DIGITS: u8 = 0x10; // b4 of the command, never kept
+pub const CLOCK_FACE: u8 = 0x08; // b3
+pub const GIVES_DIGITS: u8 = 0x10; // b4 of the command, never kept
 pub const WAKE_UP_COUNTS: u8 = 0x20; // b5
 
 // Remote protocols, b6..b4 of byte 21.
@@ -99,18 +99,18 @@ pub const LONGEST_CUT: u32 = 31_622_400;
 /// The numbers of the refusal table.
 pub mod refusal {
     pub const ACCEPTED: u32 = 0;
-    pub const IMAGE: u32 = 1;
+    pub const BAD_IMAGE: u32 = 1;
     pub const NO_COMMAND: u32 = 2;
-    pub const STANDBY: u32 = 3;
-    pub const UNKNOWN: u32 = 4;
+    pub const IN_STANDBY: u32 = 3;
+    pub const UNKNOWN_COMMAND: u32 = 4;
     pub const TOO_SHORT: u32 = 5;
-    pub const ADDRESS: u32 = 6;
-    pub const PROTOCOL: u32 = 7;
-    pub const DIGITS: u32 = 8;
-    pub const CALENDAR: u32 = 9;
-    pub const TOO_LONG: u32 = 10;
+    pub const BAD_ADDRESS: u32 = 6;
+    pub const BAD_PROTOCOL: u32 = 7;
+    pub const BAD_DIGITS: u32 = 8;
+    pub const BAD_CALENDAR: u32 = 9;
+    pub const CUT_TOO_LONG: u32 = 10;
     pub const NO_KEY: u32 = 11;
-    pub const BUFFER: u32 = 12;
+    pub const BAD_BUFFER: u32 = 12;
 }
 
 /// A two-byte field of the image, low byte first.

@@ -37,9 +37,9 @@ pub const CALENDAR: [Field; 7] = [
     Field { at: SECONDS, bits: 0x7F, least: 0, most: 59 },
     Field { at: MINUTES, bits: 0x7F, least: 0, most: 59 },
     Field { at: HOURS, bits: 0x3F, least: 0, most: 23 },
-    Field { at: DAY, bits: 0x07, least: 1, most: 7 },
+    Field { at: WEEKDAY, bits: 0x07, least: 1, most: 7 },
     Field { at: DATE, bits: 0x3F, least: 1, most: 31 },
-    Field { at: CENTURY_MONTH, bits: 0x1F, least: 1, most: 12 },
+    Field { at: MONTH, bits: 0x1F, least: 1, most: 12 },
     Field { at: YEAR, bits: 0xFF, least: 0, most: 99 },
 ];
 
@@ -57,7 +57,7 @@ impl Field {
 
 /// True if the date is not past the end of its month; a month out of range is another matter.
 pub fn date_exists(registers: &[u8]) -> bool {
-    let month = from_bcd(registers[CENTURY_MONTH] & 0x1F);
+    let month = from_bcd(registers[MONTH] & 0x1F);
     let leap = is_leap(from_bcd(registers[YEAR]));
     from_bcd(registers[DATE] & 0x3F) <= month_length(month, leap)
 }

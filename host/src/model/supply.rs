@@ -12,11 +12,11 @@ impl Model {
     /// The image that power-up writes.
     pub(super) fn do_power_up(&self, image: &mut Image) {
         *image = [0; IMAGE_LEN];
-        image[DAY] = 0x07;
+        image[WEEKDAY] = 0x07;
         image[DATE] = 0x01;
-        image[CENTURY_MONTH] = 0x01;
+        image[MONTH] = 0x01;
         image[CONFIGURATION] = 0x01;
-        image[REMOTE_SETUP] = 0x0A;
+        image[SETUP] = 0x0A;
         set_word(image, GUARD_LEFT, 160);
         image[DIGITS] = 5;
     }
@@ -49,7 +49,7 @@ impl Model {
                 alarm.matches_within(start, n)
             };
             let asked = if self.has(Fault::AbeNotAsked) { AFE } else { AFE | ABE };
-            if image[AL_MONTH] & asked == asked && matched {
+            if image[ALARM_MONTH] & asked == asked && matched {
                 image[FLAGS] |= ALARM_FLAG;
             }
         }

@@ -24,12 +24,12 @@ impl Model {
     /// The registers as the alarm's comparison sees them; only a planted fault changes them.
     pub(super) fn alarm_view(&self, image: &Image) -> [u8; 16] {
         let mut view: [u8; 16] = image[..16].try_into().expect("sixteen registers");
-        if self.has(Fault::ImpossibleFieldCarries) && from_bcd(view[AL_SEC] & 0x7F) < 80 {
-            view[AL_SEC] = view[AL_SEC] & RPT1 | to_bcd(from_bcd(view[AL_SEC] & 0x7F));
+        if self.has(Fault::ImpossibleFieldCarries) && from_bcd(view[ALARM_SECOND] & 0x7F) < 80 {
+            view[ALARM_SECOND] = view[ALARM_SECOND] & RPT1 | to_bcd(from_bcd(view[ALARM_SECOND] & 0x7F));
         }
         if self.has(Fault::MonthRepeatsWithDate) {
-            let date = view[AL_DATE];
-            view[AL_DATE] = (date & RPT4) >> 1 | (date & RPT5) << 1 | date & 0x3F;
+            let date = view[ALARM_DATE];
+            view[ALARM_DATE] = (date & RPT4) >> 1 | (date & RPT5) << 1 | date & 0x3F;
         }
         view
     }
@@ -48,14 +48,14 @@ impl Model {
             image[SECONDS] = seconds + 1;
         }
         if self.has(Fault::CenturyStops) && after.count() == 0 {
-            image[CENTURY_MONTH] |= 0xC0;
+            image[MONTH] |= 0xC0;
         }
         let mut view = self.alarm_view(image);
         if self.has(Fault::OldWeekdayCompared) {
-            view[DAY] = before.weekday as u8;
+            view[WEEKDAY] = before.weekday as u8;
         }
         let asked = if self.has(Fault::TickAsksAbe) { AFE | ABE } else { AFE };
-        if image[AL_MONTH] & asked == asked && matches_now(&view) {
+        if image[ALARM_MONTH] & asked == asked && matches_now(&view) {
             let was_up = has(image, FLAGS, ALARM_FLAG);
             image[FLAGS] |= ALARM_FLAG;
             if !(self.has(Fault::WakesOnlyOnNewFlag) && was_up) {
@@ -70,7 +70,7 @@ impl Model {
             return;
         }
         set_word(image, WATCHDOG_LEFT, left - 1);
-        if left == 1 && has(image, AL_DAY, WDFEN) {
+        if left == 1 && has(image, ALARM_WEEKDAY, WDFEN) {
             let was_up = has(image, FLAGS, WATCHDOG_FLAG);
             image[FLAGS] |= WATCHDOG_FLAG;
             if self.has(Fault::WatchdogBeginsStandby) && !in_standby(image) {
@@ -87,7 +87,7 @@ impl Model {
             return;
         }
         set_word(image, GUARD_LEFT, left - 1);
-        if left == 1 && has(image, CONFIGURATION, GUARD_TO_STBY) {
+        if left == 1 && has(image, CONFIGURATION, GUARD_STANDBY) {
             begin_standby(image);
         }
     }

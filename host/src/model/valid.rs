@@ -18,7 +18,7 @@ pub enum Clause {
     Pins,
     ConfigurationB4,
     ConfigurationB6B7,
-    RemoteSetupB7,
+    SetupB7,
     Protocol,
     GuardWithinValue,
     NoGuardInStandby,
@@ -42,7 +42,7 @@ const SINGLE: [Clause; 18] = [
     Pins,
     ConfigurationB4,
     ConfigurationB6B7,
-    RemoteSetupB7,
+    SetupB7,
     Protocol,
     GuardWithinValue,
     NoGuardInStandby,
@@ -60,7 +60,7 @@ const SINGLE: [Clause; 18] = [
 pub fn clauses() -> Vec<Clause> {
     let mut all: Vec<Clause> = (0..16).filter(|&at| KEPT[at] != 0xFF).map(Reserved).collect();
     // Weekdays have one small nibble, so only their range can break.
-    all.extend((0..CALENDAR.len()).filter(|&field| CALENDAR[field].at != DAY).map(Nibbles));
+    all.extend((0..CALENDAR.len()).filter(|&field| CALENDAR[field].at != WEEKDAY).map(Nibbles));
     // Two sound nibbles are always in the range of years.
     all.extend((0..CALENDAR.len()).filter(|&field| CALENDAR[field].at != YEAR).map(Range));
     all.extend(SINGLE.iter().filter(|clause| !matches!(clause, Unused(_))));
@@ -80,10 +80,10 @@ impl Clause {
             Sixteenths => image[SIXTEENTHS] <= 15,
             Flags => image[FLAGS] & !(ALARM_FLAG | WATCHDOG_FLAG) == 0,
             Pins => image[PINS] & !(READY | WAKE_UP | STBY) == 0,
-            ConfigurationB4 => !has(image, CONFIGURATION, SETS_DIGITS),
+            ConfigurationB4 => !has(image, CONFIGURATION, GIVES_DIGITS),
             ConfigurationB6B7 => image[CONFIGURATION] >> 6 == 0,
-            RemoteSetupB7 => image[REMOTE_SETUP] >> 7 == 0,
-            Protocol => matches!(image[REMOTE_SETUP] >> 4 & 0x07, PROTOCOL_OFF | RC5 | NEC),
+            SetupB7 => image[SETUP] >> 7 == 0,
+            Protocol => matches!(image[SETUP] >> 4 & 0x07, PROTOCOL_OFF | RC5 | NEC),
             GuardWithinValue => guard <= guard_load(image),
             NoGuardInStandby => !standby || guard == 0,
             WatchdogWithinLoad => word(image, WATCHDOG_LEFT) <= watchdog_load(image[WATCHDOG]),
@@ -100,7 +100,7 @@ impl Clause {
 
 /// The sixteenths that the guard value of byte 21 stands for.
 pub fn guard_load(image: &Image) -> u16 {
-    PER_SECOND * u16::from(image[REMOTE_SETUP] & 0x0F)
+    PER_SECOND * u16::from(image[SETUP] & 0x0F)
 }
 
 /// The clauses that the image breaks.
