@@ -36,10 +36,22 @@ fn below(folder: &Path, ending: &str) -> String {
     files(folder, ending).iter().map(|path| fs::read_to_string(path).unwrap()).collect()
 }
 
-/// Whether a line lets a proof look into the definition of that name.
-fn unfolds(line: &str, name: &str) -> bool {
-    let mut words = line.split_whitespace();
-    words.next() == Some("unfolding") && words.any(|word| word == name)
+/// How many of the text's `unfolding` clauses name the word; a clause goes on over lines that are indented further.
+fn unfoldings(text: &str, word: &str) -> usize {
+    let indent = |line: &str| line.len() - line.trim_start().len();
+    let mut count = 0;
+    let mut lines = text.lines().peekable();
+    while let Some(line) = lines.next() {
+        if line.split_whitespace().next() != Some("unfolding") {
+            continue;
+        }
+        let mut clause = line.to_string();
+        while let Some(further) = lines.next_if(|next| indent(next) > indent(line)) {
+            clause = clause + " " + further;
+        }
+        count += usize::from(clause.split_whitespace().any(|named| named == word));
+    }
+    count
 }
 
 /// Whether a line declares the name, behind one of the keywords.
@@ -156,12 +168,13 @@ fn the_documents_count_what_is_there() {
 
 #[test]
 fn only_the_two_places_named_look_into_the_leap_rule() {
-    assert!(unfolds("  unfolding month leap", "leap") && !unfolds("unfolding leap-counted", "leap"));
+    assert_eq!(unfoldings("unfolding a\n  leap\nx = leap\n  unfolding leap\n", "leap"), 2);
+    assert_eq!(unfoldings("unfolding leap-counted\nx = leap\n", "leap"), 0);
     assert!(read("crates/calendar/specs/Date.antt").contains("unfoldable pub leap :"));
     let mut places = Vec::new();
     for file in files(&top().join("crates"), ".antt") {
-        let lines = read(&file).lines().filter(|line| unfolds(line, "leap")).count();
-        places.extend(vec![file.strip_prefix(top()).unwrap().display().to_string(); lines]);
+        let clauses = unfoldings(&read(&file), "leap");
+        places.extend(vec![file.strip_prefix(top()).unwrap().display().to_string(); clauses]);
     }
     places.sort();
     assert_eq!(places, ["crates/calendar/proofs/Date.antt", "crates/calendar/proofs/is_leap/Proof.antt"]);

@@ -15,7 +15,10 @@ record Masking (f : ℕ → ℕ) : Type 0 where
 -- what each register keeps of a byte, from 00h on
 masks : List (ℕ → ℕ)
 masks =
-    nothing ∷ whole ∷ low7 ∷ whole ∷ low3 ∷ low6 ∷ withoutB5 ∷ whole ∷ withoutB6 ∷ whole ∷ withoutB6 ∷ whole ∷ whole ∷ whole ∷ whole ∷ high4 ∷ []
+    nothing ∷ whole ∷ low7 ∷ whole
+    ∷ low3 ∷ low6 ∷ withoutB5 ∷ whole
+    ∷ withoutB6 ∷ whole ∷ withoutB6 ∷ whole
+    ∷ whole ∷ whole ∷ whole ∷ high4 ∷ []
 
 masking-nothing : Masking nothing
 masking-nothing = record { twice = λ b. refl; less = λ b. omega arith }
@@ -45,7 +48,10 @@ masking-at : (a : ℕ) → Masking (getD masks a nothing)
 unfolding masks
 masking-at a =
     each-at Masking masks nothing
-    (masking-nothing also masking-whole also masking-low7 also masking-whole also masking-low3 also masking-low6 also masking-b5 also masking-whole also masking-b6 also masking-whole also masking-b6 also masking-whole also masking-whole also masking-whole also masking-whole also masking-high4 also done)
+    (masking-nothing also masking-whole also masking-low7 also masking-whole
+    also masking-low3 also masking-low6 also masking-b5 also masking-whole
+    also masking-b6 also masking-whole also masking-b6 also masking-whole
+    also masking-whole also masking-whole also masking-whole also masking-high4 also done)
     masking-nothing a
 
 by-mask : (a b : ℕ) → kept a b ≡ getD masks a nothing b

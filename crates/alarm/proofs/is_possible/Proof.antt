@@ -25,7 +25,13 @@ field-within-requires-6 c κs = search needs
 
 returns : tie.Need-returns
 unfolding possible
-returns c = λ i. ((((c .before .before .before .before .before .field-within .ensures i && c .before .before .before .before .field-within2 .ensures i) && c .before .before .before .field-within3 .ensures i) && c .before .before .field-within4 .ensures i) && c .before .field-within5 .ensures i) && c .field-within6 .ensures i
+returns c =
+    let c5 = c .before in
+    let c4 = c5 .before in
+    let c3 = c4 .before in
+    let c2 = c3 .before in
+    let c1 = c2 .before in
+    λ i. ((((c1 .field-within .ensures i && c2 .field-within2 .ensures i) && c3 .field-within3 .ensures i) && c4 .field-within4 .ensures i) && c5 .field-within5 .ensures i) && c .field-within6 .ensures i
 
 pub is-possible-spec : {M : Type 1} → statement M
 is-possible-spec = tie.close (tie.spec field-within-requires field-within-requires-2 field-within-requires-3 field-within-requires-4 field-within-requires-5 field-within-requires-6 returns)

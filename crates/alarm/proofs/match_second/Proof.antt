@@ -25,7 +25,13 @@ field-fits-requires-6 c κs = search needs
 
 returns : tie.Need-returns
 unfolding matches
-returns c = λ i. ((((c .before .before .before .before .before .field-fits .ensures i && c .before .before .before .before .field-fits2 .ensures i) && c .before .before .before .field-fits3 .ensures i) && c .before .before .field-fits4 .ensures i) && c .before .field-fits5 .ensures i) && c .field-fits6 .ensures i
+returns c =
+    let c5 = c .before in
+    let c4 = c5 .before in
+    let c3 = c4 .before in
+    let c2 = c3 .before in
+    let c1 = c2 .before in
+    λ i. ((((c1 .field-fits .ensures i && c2 .field-fits2 .ensures i) && c3 .field-fits3 .ensures i) && c4 .field-fits4 .ensures i) && c5 .field-fits5 .ensures i) && c .field-fits6 .ensures i
 
 pub match-second-spec : {M : Type 1} → statement M
 match-second-spec = tie.close (tie.spec field-fits-requires field-fits-requires-2 field-fits-requires-3 field-fits-requires-4 field-fits-requires-5 field-fits-requires-6 returns)
