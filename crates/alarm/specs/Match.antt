@@ -24,6 +24,8 @@ matches a c =
     ∷ fits (a .weekday) (c .weekday)
     ∷ [])
 
+-- ---- For the search, and no rule of document 01: laws say what they have to do with a match
+
 -- a field that is not compared, or that some time has
 unfoldable pub inRange : Field → ℕ → ℕ → Bool
 inRange f lo hi = f .any || (leb lo (f .value) && leb (f .value) hi)
@@ -39,8 +41,6 @@ possible a =
     ∷ inRange (a .month) 1 12
     ∷ inRange (a .weekday) 1 7
     ∷ [])
-
--- ---- Parts of a match, for the search through a day. They are no rule of document 01: laws say that together they are the match.
 
 -- the three fields of the time, at the second t of the day
 unfoldable pub timeFits : Alarm → ℕ → Bool

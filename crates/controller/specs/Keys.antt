@@ -7,7 +7,7 @@ use Rattle.controller.specs.declared.Core.{Core}
 use Rattle.controller.specs.State.{withKeys, keys, allHot, KEY}
 use Rattle.controller.specs.Standby.{raised}
 
--- the keys of a that b lacks
+-- the keys of a that b lacks, of 32 at most
 abbrev pub without : ℕ → ℕ → ℕ
 without a b = bitAnd a (4_294_967_295 - b)
 

@@ -1,8 +1,7 @@
 -- Document 01, "The image": what holds of the state in a valid image. `width` is the number of keys of the panel kind.
 use mathlib.Core.Path.{_≡_}
-use mathlib.Core.Bool.{Bool, true, _||_}
+use mathlib.Core.Bool.{true}
 use Prim.Native.Nat.{ℕ, _/_, _%_, _^_, _≤_, _<_}
-use lib.Dec.{eqb}
 use lib.ListN.{length, getD}
 use Rattle.units.specs.Units.{sixteenthsOf}
 use Rattle.registers.specs.Names.{at, WATCHDOG}

@@ -1,20 +1,28 @@
 -- What a command makes of STBY and of the clock registers. Assumes nothing.
-use Prim.Native.Nat.{ℕ}
-use mathlib.Core.Path.{_≡_, refl, sym, ap, _∙_}
+use Prim.Native.Nat.{ℕ, _+_, _-_, _≤_, _<_}
+use mathlib.Core.Path.{_≡_, refl, sym, ap, subst, _∙_}
 use mathlib.Core.Bool.{Bool, false, true≢false}
 use mathlib.Core.Logic.{_⊎_, inl, inr, ⊎-elim}
 use mathlib.Core.List.{List}
 use native.Mathlib.Omega.{arith}
-use lib.Dec.{eqb}
-use borrow.Author.Tests.{eqb-true, ne-eqb}
-use Rattle.common.proofs.Choice.{of-cond}
+use lib.Dec.{eqb, leb, ltb}
+use lib.ListN.{length}
+use borrow.Author.Tests.{eqb-true, ne-eqb, ltb-false, le-leb}
+use Rattle.common.proofs.Choice.{of-cond, not-other}
+use Rattle.common.proofs.Order.{lt-or-le}
 use Rattle.command.specs.Codes.{WRITE-DIGITS, WRITE-REGISTERS, READ-KEYS, READ-REMOTE, READ-INTERRUPTS, READ-REGISTERS, SET-HOT-KEYS, STANDBY, configures, givesDigits, setsDisplay}
-use Rattle.command.specs.Decode.{commandBy}
+use Rattle.command.specs.Refusals.{byte}
+use Rattle.command.specs.Decode.{commandBy, commandOf}
+use Rattle.command.specs.Holds.{Holds}
 use Rattle.command.specs.declared.Command.{Command}
 use Rattle.command.specs.declared.Command.the-variants.{Configure, ConfigureDigits, WriteDigits, WriteRegisters, ReadKeys, ReadRemote, ReadInterrupts, ReadRegisters, SetDisplay, SetHotKeys, Standby, ReloadGuard}
+use Rattle.registers.specs.Names.{at}
+use Rattle.registers.specs.Written.{written}
+use Rattle.registers.proofs.Written.{written-below, written-behind}
 use Rattle.controller.specs.declared.Core.{Core}
 use Rattle.effects.specs.Configure.{configured, guardReloaded}
-use Rattle.effects.specs.Write.{registersWritten}
+use Rattle.effects.specs.Write.{touched, registersWritten}
+use Rattle.effects.specs.Execute.{dataOf}
 use Rattle.panel.specs.declared.Panel.{Panel}
 use Rattle.panel.specs.Execute.{executed}
 
@@ -109,3 +117,29 @@ module _ (p : Panel) (s : List ℕ) where
   registers-executed Standby n = refl
   registers-executed ReloadGuard n =
       of-cond (λ (c : Core). c .rtc .registers ≡ p .core .rtc .registers) (eqb (p .core .power .guard .0) 0) _ _ (λ _. refl) (λ _. refl)
+
+-- ---- 50h leaves the registers that no data byte goes to
+
+-- an address that no data byte goes to keeps its register
+pub untouched : (rs : List ℕ) (a : ℕ) (bytes : List ℕ) → a ≤ length rs → (x : ℕ) → touched a (length bytes) x ≡ false → at (written rs a bytes) x ≡ at rs x
+untouched rs a bytes h x t =
+    ⊎-elim (λ (l : x < a). written-below rs a bytes h x l)
+    (λ (l : a ≤ x).
+    let most : length bytes ≤ x - a = ltb-false (x - a) (length bytes) (not-other (leb a x) (ltb (x - a) (length bytes)) (le-leb a x l) t) in
+    let same : a + (x - a) ≡ x = omega arith in
+    ap (at (written rs a bytes)) (sym same) ∙ written-behind rs a bytes h (x - a) most ∙ ap (at rs) same) (lt-or-le x a)
+
+write-named : (c a b : ℕ) → c ≡ WRITE-REGISTERS → commandBy c a b ≡ WriteRegisters a
+unfolding commandBy
+write-named c a b e = rw e refl
+
+module _ (p : Panel) (s : List ℕ) (sized : length (p .core .rtc .registers) ≡ 16) (e : byte s 0 ≡ WRITE-REGISTERS) where
+  named : commandOf s ≡ WriteRegisters (byte s 1)
+  named = write-named (byte s 0) (byte s 1) (byte s 2) e
+
+  pub written-apart : (room : ℕ) → Holds s room (commandOf s) → (k : ℕ) → touched (byte s 1) (length (dataOf s)) k ≡ false
+      → at ((executed p (commandOf s) s) .core .rtc .registers) k ≡ at (p .core .rtc .registers) k
+  unfolding registersWritten
+  written-apart room h k t =
+      ap (λ (x : Command). at ((executed p x s) .core .rtc .registers) k) named
+      ∙ untouched (p .core .rtc .registers) (byte s 1) (dataOf s) (omega (arith, subst (Holds s room) named h .0 .most)) k t

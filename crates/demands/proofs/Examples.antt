@@ -1,15 +1,17 @@
--- A clock set after power-up, then a tick, a sample and READY: what read-back asks can be had. Assumes nothing.
-use Prim.Native.Nat.{ℕ, _<_}
-use mathlib.Core.Path.{_≡_, refl}
-use mathlib.Core.Bool.{false}
+-- A clock set after power-up, then a tick, a sample and READY; an alarm set, then any number of ticks: what read-back asks can be had.
+-- Assumes nothing.
+use Prim.Native.Nat.{ℕ, zero, suc, _<_}
+use mathlib.Core.Path.{_≡_, refl, ap, _∙_}
+use mathlib.Core.Bool.{Bool, false, _&&_, and-false}
 use mathlib.Core.List.{List, [], _∷_}
 use native.Mathlib.Omega.{arith}
-use lib.Dec.{lit<}
-use Rattle.common.specs.Fill.{upTo}
+use lib.Dec.{eqb, lit<}
+use lib.ListN.{getD}
 use Rattle.common.proofs.Each.{each-at, done, _also_}
 use Rattle.calendar.specs.Date.{monthLength}
 use Rattle.command.specs.Refusals.{bytesNeeded, roomNeeded, groundsBy}
 use Rattle.command.specs.Decode.{commandBy}
+use Rattle.registers.specs.Names.{HOURS, ALARM-MONTH, ALARM-HOUR}
 use Rattle.registers.specs.Written.{stored, written}
 use Rattle.timekeeper.specs.Clock.{clockOf, validCalendar}
 use Rattle.controller.specs.Keys.{sampled, pressed}
@@ -17,22 +19,25 @@ use Rattle.controller.specs.Pins.{readySet}
 use Rattle.controller.specs.Standby.{raised}
 use Rattle.controller.specs.Tick.{secondPassed, clockTicked, watchdogTicked, guardTicked, ticked}
 use Rattle.effects.specs.Write.{registersWritten}
-use Rattle.output.specs.Output.{answered}
 use Rattle.properties.specs.Causes.{secondPasses}
 use Rattle.panel.specs.PowerUp.{panelPoweredUp}
-use Rattle.image.specs.Image.{encoded}
+use Rattle.image.specs.Image.{decoded, encoded}
 use Rattle.validity.specs.Valid.{isValid}
 use Rattle.supply.proofs.Sound.{sound-powered}
 use Rattle.stled325.specs.Outcome.{decided}
 use Rattle.demands.specs.Event.{tick, sample, ready, Given, after, ValidImage, stby}
-use Rattle.demands.specs.Clock.{Step, afterAll, Quiet}
+use Rattle.demands.specs.Clock.{ofCalendar, Step, afterAll, AllGiven, Quiet}
 use Rattle.demands.proofs.Valid.{sound-valid}
-use Rattle.demands.proofs.ReadBack.{write, read, read-back}
+use Rattle.demands.proofs.ReadBack.{write, read, read-back-byte}
 
 abbrev fresh : List ℕ
 fresh = encoded panelPoweredUp
 
--- 12.34:56
+pub fresh-valid : ValidImage fresh
+fresh-valid = sound-valid sound-powered
+
+-- ---- The time 12.34:56, from 01h on
+
 abbrev time : List ℕ
 time = 0x56 ∷ 0x34 ∷ 0x12 ∷ []
 
@@ -42,9 +47,6 @@ set = after (write 1 time) fresh [] .image
 abbrev steps : List Step
 steps = record { event = tick; output = [] } ∷ record { event = sample 1; output = [] } ∷ record { event = ready 1; output = [] } ∷ []
 
-pub fresh-valid : ValidImage fresh
-fresh-valid = sound-valid sound-powered
-
 pub time-given : Given (write 1 time)
 time-given = each-at (λ (b : ℕ). b < 256) (0x50 ∷ 1 ∷ time) 0 (lit< tt also lit< tt also lit< tt also lit< tt also lit< tt also done) (lit< tt)
 
@@ -52,15 +54,61 @@ pub time-accepted : after (write 1 time) fresh [] .number ≡ 0
 unfolding decided isValid groundsBy bytesNeeded roomNeeded commandBy written stored validCalendar clockOf monthLength
 time-accepted = refl
 
-pub steps-quiet : Quiet steps set
-unfolding decided isValid groundsBy bytesNeeded roomNeeded commandBy written stored validCalendar clockOf monthLength registersWritten secondPasses ticked guardTicked watchdogTicked clockTicked secondPassed raised sampled pressed
-steps-quiet = (tt, (refl, (lit< tt, (refl, (tt, (refl, tt))))))
+pub steps-given : AllGiven steps
+steps-given = (tt, (lit< tt, (tt, tt)))
+
+pub steps-quiet : Quiet HOURS steps set
+unfolding decided isValid groundsBy bytesNeeded roomNeeded commandBy written stored validCalendar clockOf monthLength registersWritten
+    secondPasses ticked guardTicked watchdogTicked clockTicked secondPassed raised sampled pressed
+steps-quiet = (refl, (refl, (refl, tt)))
 
 pub steps-awake : stby (afterAll steps set) ≡ false
-unfolding decided isValid groundsBy bytesNeeded roomNeeded commandBy written stored validCalendar clockOf monthLength registersWritten ticked guardTicked watchdogTicked clockTicked secondPassed raised sampled pressed readySet
+unfolding decided isValid groundsBy bytesNeeded roomNeeded commandBy written stored validCalendar clockOf monthLength registersWritten
+    ticked guardTicked watchdogTicked clockTicked secondPassed raised sampled pressed readySet
 steps-awake = refl
 
--- and 70h replies the time that was set
-pub time-read-back : after (read 1 []) (afterAll steps set) (0 ∷ 0 ∷ 0 ∷ []) .output ≡ time
-unfolding answered upTo written stored
-time-read-back = read-back fresh-valid 1 time time-given [] time-accepted steps steps-quiet steps-awake 1 (omega arith) [] (0 ∷ 0 ∷ 0 ∷ []) .1
+-- 70h replies the hour that was set
+pub hour-read-back : getD (after (read 1 []) (afterAll steps set) (0 ∷ 0 ∷ 0 ∷ []) .output) 2 0 ≡ 0x12
+hour-read-back =
+    read-back-byte fresh-valid 1 time time-given [] time-accepted HOURS (omega arith) steps steps-given steps-quiet steps-awake
+    1 (omega arith) [] (0 ∷ 0 ∷ 0 ∷ []) (omega arith) 2 (omega arith) refl
+
+-- ---- An alarm every day at 07:30:00, from 0Ah on: no number of ticks changes it
+
+abbrev alarm : List ℕ
+alarm = 0xA0 ∷ 0xC0 ∷ 0x47 ∷ 0x30 ∷ 0x00 ∷ []
+
+abbrev armed : List ℕ
+armed = after (write ALARM-MONTH alarm) fresh [] .image
+
+unfoldable pub ticks : ℕ → List Step
+ticks zero = []
+ticks (suc n) = record { event = tick; output = [] } ∷ ticks n
+
+ticks-given : (n : ℕ) → AllGiven (ticks n)
+unfolding ticks
+ticks-given zero = tt
+ticks-given (suc n) = (tt, ticks-given n)
+
+ticks-quiet : (k : ℕ) → ofCalendar k ≡ false → (n : ℕ) (l : List ℕ) → Quiet k (ticks n) l
+unfolding ticks
+ticks-quiet k f zero l = tt
+ticks-quiet k f (suc n) l = (
+  ap (λ (b : Bool). eqb (after tick l [] .number) 0 && (b && secondPasses (decoded l .core))) f ∙ and-false (eqb (after tick l [] .number) 0),
+  ticks-quiet k f n (after tick l [] .image),
+)
+
+pub alarm-given : Given (write ALARM-MONTH alarm)
+alarm-given =
+    each-at (λ (b : ℕ). b < 256) (0x50 ∷ ALARM-MONTH ∷ alarm) 0
+    (lit< tt also lit< tt also lit< tt also lit< tt also lit< tt also lit< tt also lit< tt also done) (lit< tt)
+
+pub alarm-accepted : after (write ALARM-MONTH alarm) fresh [] .number ≡ 0
+unfolding decided isValid groundsBy bytesNeeded roomNeeded commandBy written stored validCalendar clockOf monthLength
+alarm-accepted = refl
+
+-- while the panel is awake 70h replies the hour of the alarm
+pub alarm-hour-read-back : (n : ℕ) → stby (afterAll (ticks n) armed) ≡ false → getD (after (read ALARM-HOUR []) (afterAll (ticks n) armed) (0 ∷ []) .output) 0 0 ≡ 0x47
+alarm-hour-read-back n low =
+    read-back-byte fresh-valid ALARM-MONTH alarm alarm-given [] alarm-accepted ALARM-HOUR (omega arith) (ticks n) (ticks-given n)
+    (ticks-quiet ALARM-HOUR refl n armed) low ALARM-HOUR (omega arith) [] (0 ∷ []) (omega arith) 2 (omega arith) refl

@@ -1,5 +1,6 @@
--- Demand 2: a clock that is written is read back the same, reserved bits apart, until something changes it. Assumes nothing.
-use Prim.Native.Nat.{ℕ, zero, suc, _+_, _≤_, _<_}
+-- Demand 2: a clock register that is written is read back the same, reserved bits apart, until time, another write to it or a power-up.
+-- Assumes nothing.
+use Prim.Native.Nat.{ℕ, zero, suc, _+_, _-_, _≤_, _<_}
 use mathlib.Core.Path.{_≡_, refl, sym, ap, _∙_}
 use mathlib.Core.Bool.{false, not, _||_}
 use mathlib.Core.Logic.{⊎-elim}
@@ -15,14 +16,15 @@ use Rattle.common.proofs.Fill.{upTo-length, getD-any}
 use Rattle.command.specs.Codes.{WRITE-REGISTERS, READ-REGISTERS}
 use Rattle.command.specs.Refusals.{bytesNeeded, roomNeeded, groundsBy}
 use Rattle.command.specs.Decode.{commandBy}
+use Rattle.registers.specs.Names.{at}
 use Rattle.registers.specs.Written.{kept, written}
-use Rattle.registers.proofs.Written.{written-length, written-at}
+use Rattle.registers.proofs.Written.{written-at}
 use Rattle.effects.specs.Write.{registersWritten}
-use Rattle.output.specs.Output.{answered}
+use Rattle.output.specs.Output.{FILL, answered}
 use Rattle.panel.specs.declared.Panel.{Panel}
 use Rattle.image.specs.Image.{registersIn}
 use Rattle.demands.specs.Event.{Event, command, Given, after, ValidImage, stby}
-use Rattle.demands.specs.Clock.{Step, afterAll, Quiet}
+use Rattle.demands.specs.Clock.{Step, afterAll, AllGiven, Quiet}
 use Rattle.demands.proofs.Refusals.{accepted-leaves, grounds-exact}
 use Rattle.demands.proofs.Valid.{command-holds, accepted-panel, stays-valid}
 use Rattle.demands.proofs.Clock.{all-valid, all-kept}
@@ -41,9 +43,9 @@ upTo-at f (suc n) i h =
         let p : i ≡ length (upTo f n) + 0 = omega (arith, upTo-length f n) in
         ap (λ (k : ℕ). getD (upTo f n ++ (f n ∷ [])) k 0) p ∙ getD-append-add (upTo f n) (f n ∷ []) 0 0 ∙ ap f (sym e)
 
-answered-at : (reply : List ℕ) (n i : ℕ) → i < n → getD (answered reply n) i 0 ≡ getD reply i 0xFF
+answered-at : (reply : List ℕ) (n i : ℕ) → i < n → getD (answered reply n) i 0 ≡ getD reply i FILL
 unfolding answered
-answered-at reply n i h = upTo-at (λ i. getD reply i 0xFF) n i h
+answered-at reply n i h = upTo-at (λ i. getD reply i FILL) n i h
 
 -- ---- The two commands
 
@@ -85,34 +87,40 @@ module _ {l : List ℕ} (v : ValidImage l) (low : stby l ≡ false) (a : ℕ) (m
   unfolding commandBy
   read-replies = accepted-leaves (read a surplus) l o read-accepted .1
 
--- ---- READ BACK: after an accepted 50h, and any events that leave the clock alone, with STBY low
+-- ---- READ BACK: after an accepted 50h, and any events that leave register k alone, with STBY low
 
 module _ {l : List ℕ} (v : ValidImage l) (a : ℕ) (bytes : List ℕ) (g : Given (write a bytes)) (o : List ℕ) (w : after (write a bytes) l o .number ≡ 0)
-    (xs : List Step) (q : Quiet xs (after (write a bytes) l o .image)) (low : stby (afterAll xs (after (write a bytes) l o .image)) ≡ false) where
+    (k : ℕ) (most : k ≤ 15) (xs : List Step) (given : AllGiven xs) (q : Quiet k xs (after (write a bytes) l o .image))
+    (low : stby (afterAll xs (after (write a bytes) l o .image)) ≡ false) where
   abbrev then : List ℕ
   then = afterAll xs (after (write a bytes) l o .image)
 
   still-valid : ValidImage then
-  still-valid = all-valid xs (stays-valid v (write a bytes) g o) q
+  still-valid = all-valid xs (stays-valid v (write a bytes) g o) given
 
-  still-written : registersIn then ≡ written (registersIn l) a bytes
-  still-written = all-kept xs (stays-valid v (write a bytes) g o) q ∙ write-registers v a bytes g o w
+  still-written : at (registersIn then) k ≡ at (written (registersIn l) a bytes) k
+  still-written = all-kept k xs (stays-valid v (write a bytes) g o) given q ∙ ap (λ (rs : List ℕ). at rs k) (write-registers v a bytes g o w)
 
-  -- 70h from any address replies the registers as they were written
-  pub read-back : (b : ℕ) → b ≤ 15 → (surplus out : List ℕ)
-      → (after (read b surplus) then out .number ≡ 0) × (after (read b surplus) then out .output ≡ answered (drop b (written (registersIn l) a bytes)) (length out))
-  read-back b most surplus out = (
-    read-accepted still-valid low b most surplus out,
-    read-replies still-valid low b most surplus out ∙ ap (λ (rs : List ℕ). answered (drop b rs) (length out)) still-written,
-  )
+  -- 70h from any address up to k replies the register as the write left it
+  pub read-back : (b : ℕ) → b ≤ k → (surplus out : List ℕ) → k - b < length out
+      → (after (read b surplus) then out .number ≡ 0) × (getD (after (read b surplus) then out .output) (k - b) 0 ≡ at (written (registersIn l) a bytes) k)
+  read-back b under surplus out room =
+      let e : b + (k - b) ≡ k = omega arith in
+      let rs = registersIn then in
+      let far : b ≤ 15 = omega arith in (
+        read-accepted still-valid low b far surplus out,
+        ap (λ (x : List ℕ). getD x (k - b) 0) (read-replies still-valid low b far surplus out)
+            ∙ answered-at (drop b rs) (length out) (k - b) room
+            ∙ getD-drop b rs (k - b) FILL
+            ∙ ap (λ (x : ℕ). getD rs x FILL) e
+            ∙ getD-any rs k FILL 0 (omega arith)
+            ∙ still-written,
+      )
 
-  -- from the same address byte i is the one written, as its register keeps it
-  pub read-back-byte : (surplus out : List ℕ) (i : ℕ) → i < length bytes → a + i ≤ 15 → i < length out
-      → getD (after (read a surplus) then out .output) i 0 ≡ kept (a + i) (getD bytes i 0)
-  read-back-byte surplus out i hb hr ho =
-      let rs = written (registersIn l) a bytes in
-      ap (λ (x : List ℕ). getD x i 0) (read-back a (write-most v a bytes g o w) surplus out .1)
-      ∙ answered-at (drop a rs) (length out) i ho
-      ∙ getD-drop a rs i 0xFF
-      ∙ getD-any rs (a + i) 0xFF 0 (omega (arith, written-length (registersIn l) a bytes))
+  -- and where data byte i went to it, that byte, as the register keeps it
+  pub read-back-byte : (b : ℕ) → b ≤ k → (surplus out : List ℕ) → k - b < length out → (i : ℕ) → i < length bytes → a + i ≡ k
+      → getD (after (read b surplus) then out .output) (k - b) 0 ≡ kept k (getD bytes i 0)
+  read-back-byte b under surplus out room i hb e =
+      read-back b under surplus out room .1 ∙ ap (at (written (registersIn l) a bytes)) (sym e)
       ∙ written-at (registersIn l) a bytes (omega (arith, write-most v a bytes g o w)) i (omega arith) hb
+      ∙ ap (λ (x : ℕ). kept x (getD bytes i 0)) e

@@ -1,24 +1,22 @@
 -- Document 01, "The image": every accepted command leaves a sound panel sound. Assumes nothing.
 use Prim.Native.Nat.{ℕ, _+_, _-_, _≤_, _<_}
-use mathlib.Core.Path.{_≡_, refl, sym, ap, subst, _∙_}
+use mathlib.Core.Path.{_≡_, refl, sym, subst, _∙_}
 use mathlib.Core.Bool.{true, false, true≢false}
-use mathlib.Core.Logic.{⊎-elim}
 use mathlib.Core.List.{List}
 use native.Mathlib.Omega.{arith}
-use lib.Dec.{eqb, leb, ltb}
+use lib.Dec.{eqb}
 use lib.ListN.{length, getD}
 use lib.Seq.{getD-drop}
-use borrow.Author.Tests.{ltb-false, le-leb, not-false}
-use Rattle.common.proofs.Choice.{of-cond, not-other}
+use borrow.Author.Tests.{not-false}
+use Rattle.common.proofs.Choice.{of-cond}
 use Rattle.common.proofs.Each.{each-at, done, _also_}
-use Rattle.common.proofs.Order.{lt-or-le}
 use Rattle.command.specs.declared.Command.{Command}
 use Rattle.command.specs.declared.Command.the-variants.{Configure, ConfigureDigits, WriteDigits, WriteRegisters, ReadKeys, ReadRemote, ReadInterrupts, ReadRegisters, SetDisplay, SetHotKeys, Standby, ReloadGuard}
 use Rattle.command.specs.Holds.{Configuration, Range, Holds}
 use Rattle.registers.specs.Names.{at, WATCHDOG}
 use Rattle.registers.specs.Written.{written}
 use Rattle.registers.specs.Watchdog.{watchdogLoad}
-use Rattle.registers.proofs.Written.{written-length, written-below, written-behind}
+use Rattle.registers.proofs.Written.{written-length}
 use Rattle.registers.proofs.Reserved.{written-clear, written-bytes}
 use Rattle.timekeeper.specs.Clock.{validCalendar}
 use Rattle.units.specs.declared.Sixteenths.{Sixteenths}
@@ -36,6 +34,7 @@ use Rattle.panel.specs.Display.{digitsSet, displaySet, digitByte, digitsWritten
 use Rattle.effects.specs.Execute.{dataOf, writesNoCalendar}
 use Rattle.panel.specs.Execute.{executed}
 use Rattle.image.specs.Sound.{SoundDisplay, SoundPanel}
+use Rattle.demands.proofs.Commands.{untouched}
 
 -- ---- The shared state
 
@@ -69,15 +68,6 @@ module _ {c : Core} (h : Sound 16 c) where
       sound-interrupt (sound-rtc h _ (sound-timers (h .rtc) _ (h .rtc .sixteenths) 0 (omega arith) _ (h .rtc .watchdog))) 0 (omega arith)
 
 -- ---- 50h
-
--- an address that no data byte goes to keeps its register
-untouched : (rs : List ℕ) (a : ℕ) (bytes : List ℕ) → a ≤ length rs → (x : ℕ) → touched a (length bytes) x ≡ false → at (written rs a bytes) x ≡ at rs x
-untouched rs a bytes h x t =
-    ⊎-elim (λ (l : x < a). written-below rs a bytes h x l)
-    (λ (l : a ≤ x).
-    let most : length bytes ≤ x - a = ltb-false (x - a) (length bytes) (not-other (leb a x) (ltb (x - a) (length bytes)) (le-leb a x l) t) in
-    let same : a + (x - a) ≡ x = omega arith in
-    ap (at (written rs a bytes)) (sym same) ∙ written-behind rs a bytes h (x - a) most ∙ ap (at rs) same) (lt-or-le x a)
 
 module _ {c : Core} (h : Sound 16 c) (a : ℕ) (bytes : List ℕ) (most : a ≤ 15) (small : (i : ℕ) → getD bytes i 0 < 256) where
   abbrev new : List ℕ

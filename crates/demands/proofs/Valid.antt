@@ -39,7 +39,7 @@ use Rattle.demands.proofs.SoundCommands.{sound-executed}
 
 -- ---- Valid images and sound panels
 
-valid-sound : {l : List ℕ} → ValidImage l → SoundPanel (decoded l)
+pub valid-sound : {l : List ℕ} → ValidImage l → SoundPanel (decoded l)
 valid-sound {l} v = sound l (v .valid) (v .bytes)
 
 pub sound-valid : {p : Panel} → SoundPanel p → ValidImage (encoded p)

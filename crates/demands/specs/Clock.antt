@@ -1,32 +1,41 @@
--- The events that change a clock register, and events one after the other.
+-- Demand 2: which events may change a clock register, register by register, and events one after the other.
 use Prim.Native.Nat.{ℕ}
 use mathlib.Core.Path.{_≡_}
-use mathlib.Core.Bool.{Bool, true, false, _&&_}
+use mathlib.Core.Bool.{Bool, true, false, not, _&&_}
 use mathlib.Core.List.{List, [], _∷_}
-use lib.Dec.{eqb}
+use lib.Dec.{eqb, leb}
+use lib.ListN.{length}
 use Rattle.command.specs.Codes.{WRITE-REGISTERS}
 use Rattle.command.specs.Refusals.{byte}
+use Rattle.registers.specs.Names.{SECONDS, YEAR, stopped}
 use Rattle.controller.specs.declared.Core.{Core}
 use Rattle.properties.specs.Causes.{secondPasses}
+use Rattle.effects.specs.Write.{touched}
+use Rattle.effects.specs.Execute.{dataOf}
 use Rattle.image.specs.Image.{decoded}
 use Rattle.demands.specs.Event.{Event, powerUp, tick, sample, frame, ready, wakeUp, command, show, lines, supplyReturn, Given, after}
 
--- power-up, supply return, a tick that passes a second, and 50h
-abbrev pub writesClock : Event → Core → Bool
-writesClock powerUp c = true
-writesClock tick c = secondPasses c
-writesClock (sample n) c = false
-writesClock (frame n) c = false
-writesClock (ready level) c = false
-writesClock (wakeUp level) c = false
-writesClock (command s) c = eqb (byte s 0) WRITE-REGISTERS
-writesClock show c = false
-writesClock lines c = false
-writesClock (supplyReturn n) c = true
+-- the registers that time moves: 01h..07h
+abbrev pub ofCalendar : ℕ → Bool
+ofCalendar k = leb SECONDS k && leb k YEAR
+
+-- register k may change: by time, which is a tick that passes a second, or a supply return after some seconds with the oscillator
+-- running; by a write, which is a 50h with a data byte for it; by power-up
+abbrev pub writesRegister : ℕ → Event → Core → Bool
+writesRegister k powerUp c = true
+writesRegister k tick c = ofCalendar k && secondPasses c
+writesRegister k (sample n) c = false
+writesRegister k (frame n) c = false
+writesRegister k (ready level) c = false
+writesRegister k (wakeUp level) c = false
+writesRegister k (command s) c = eqb (byte s 0) WRITE-REGISTERS && touched (byte s 1) (length (dataOf s)) k
+writesRegister k show c = false
+writesRegister k lines c = false
+writesRegister k (supplyReturn n) c = ofCalendar k && (not (stopped (c .rtc .registers)) && not (eqb n 0))
 
 -- one of them that is accepted
-abbrev pub changesClock : Event → List ℕ → List ℕ → Bool
-changesClock e l o = eqb (after e l o .number) 0 && writesClock e (decoded l .core)
+abbrev pub changesRegister : ℕ → Event → List ℕ → List ℕ → Bool
+changesRegister k e l o = eqb (after e l o .number) 0 && writesRegister k e (decoded l .core)
 
 -- an event with the output that its call is given
 pub record Step : Type 0 where
@@ -42,7 +51,12 @@ abbrev pub afterAll : List Step → List ℕ → List ℕ
 afterAll [] l = l
 afterAll (x ∷ xs) l = afterAll xs (afterStep x l)
 
--- none of the steps changes the clock, each from the image that the one before left
-abbrev pub Quiet : List Step → List ℕ → Type 0
-Quiet [] l = Unit
-Quiet (x ∷ xs) l = Given (x .event) × ((changesClock (x .event) l (x .output) ≡ false) × Quiet xs (afterStep x l))
+-- the inputs of every step are such as a call can be given
+abbrev pub AllGiven : List Step → Type 0
+AllGiven [] = Unit
+AllGiven (x ∷ xs) = Given (x .event) × AllGiven xs
+
+-- none of the steps changes register k, each from the image that the one before left
+abbrev pub Quiet : ℕ → List Step → List ℕ → Type 0
+Quiet k [] l = Unit
+Quiet k (x ∷ xs) l = (changesRegister k (x .event) l (x .output) ≡ false) × Quiet k xs (afterStep x l)

@@ -28,7 +28,7 @@ use Rattle.supply.specs.Return.{registersReturned, matchCounts}
 use Rattle.supply.proofs.Returns.{clock-stopped, clock-running, flag-returned}
 use Rattle.stled325.specs.Outcome.{outcome}
 use Rattle.stled325.specs.Calls.{supplyGrounds, imageReturned, supplyReturnCall}
-use Rattle.series.specs.Series.{imageAfterSeries, numbers, noted, within, total, sumAccepted, someAccepted, plainClock}
+use Rattle.series.specs.Series.{imageAfterSeries, numbers, noted, within, total, sumAccepted, someAccepted, someZero, plainClock}
 use Rattle.series.specs.Demand.{clockIn, stoppedIn, flagIn, alarmReached, Demand3}
 use Rattle.series.proofs.Series.{call-done, within-accepted, returned-valid, holds, none-total, after-is, after-bad, numbers-bad, numbers-good}
 
@@ -52,11 +52,16 @@ plain-running c (n ∷ ns) v = by (within n) (plain-running (moved c n) ns (move
     by true p q = p ∙ moved-moved c n (total ns)
     by false p q = let e : total ns ≡ 0 + total ns = omega arith in q ∙ ap (moved c) e
 
--- ---- the sum by the answered numbers
+-- ---- the sum, and whether one was accepted, by the answered numbers
 sum-is : (f : ℕ → ℕ) → ((n : ℕ) → within n ≡ eqb (f n) 0) → (ns : List ℕ) → total ns ≡ sumAccepted (map f ns) ns
 unfolding total sumAccepted
 sum-is f h [] = refl
 sum-is f h (n ∷ ns) = λ i. cond (h n i) n 0 + sum-is f h ns i
+
+some-is : (f : ℕ → ℕ) → ((n : ℕ) → within n ≡ eqb (f n) 0) → (ns : List ℕ) → someAccepted ns ≡ someZero (map f ns)
+unfolding someAccepted someZero
+some-is f h [] = refl
+some-is f h (n ∷ ns) = λ i. h n i || some-is f h ns i
 
 -- ---- the series from a valid image
 module _ (l ns : List ℕ) (v : isValid l ≡ true) (small : Bytes l) where
@@ -127,6 +132,7 @@ module _ (l ns : List ℕ) (small : Bytes l) where
         refusals = numbers-are;
         accepted = λ v n. within-accepted l n v;
         sum = λ v. sum-is (λ n. firstGround (supplyGrounds l n)) (λ n. within-accepted l n v) ns ∙ ap (λ (x : List ℕ). sumAccepted x ns) (sym numbers-are);
+        some = λ v. some-is (λ n. firstGround (supplyGrounds l n)) (λ n. within-accepted l n v) ns ∙ ap someZero (sym numbers-are);
         invalid-start = λ v. after-bad l ns v;
         none-accepted = untouched;
         valid-end = λ v. either l ns v small (λ (x : List ℕ). isValid x ≡ true) (returned-valid l v small (total ns)) (λ z. v);

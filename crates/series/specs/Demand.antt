@@ -20,7 +20,7 @@ use Rattle.image.specs.Layout.{FLAGS, byteAt}
 use Rattle.validity.specs.Valid.{isValid}
 use Rattle.stled325.specs.Outcome.{outcome}
 use Rattle.stled325.specs.Calls.{supplyGrounds, imageReturned, supplyReturnCall}
-use Rattle.series.specs.Series.{imageAfterSeries, numbers, noted, within, total, sumAccepted, someAccepted, plainClock}
+use Rattle.series.specs.Series.{imageAfterSeries, numbers, noted, within, total, sumAccepted, someAccepted, someZero, plainClock}
 
 -- the calendar with its weekday, the oscillator stop, and the alarm flag of an image
 abbrev pub clockIn : List ℕ → Clock
@@ -47,6 +47,8 @@ pub record Demand3 (l ns before after answers : List ℕ) : Type 0 where
   pub accepted : isValid l ≡ true → (n : ℕ) → within n ≡ eqb (firstGround (supplyGrounds l n)) 0
   -- and the sum, below, is that of the n whose number is 0
   pub sum : isValid l ≡ true → total ns ≡ sumAccepted (numbers l ns) ns
+  -- and at least one is accepted, below, exactly if one number is 0
+  pub some : isValid l ≡ true → someAccepted ns ≡ someZero (numbers l ns)
   -- from an image that is not valid nothing is accepted and nothing changes
   pub invalid-start : isValid l ≡ false → after ≡ l
   -- no return accepted: the image is as it was

@@ -43,6 +43,11 @@ unfoldable pub someAccepted : List ℕ → Bool
 someAccepted [] = false
 someAccepted (n ∷ ns) = within n || someAccepted ns
 
+-- one of the numbers is 0
+unfoldable pub someZero : List ℕ → Bool
+someZero [] = false
+someZero (k ∷ ks) = eqb k 0 || someZero ks
+
 -- the plain clock, fed each n: it moves on by each accepted one, unless stopped
 unfoldable pub plainClock : Bool → Clock → List ℕ → Clock
 plainClock stop c [] = c

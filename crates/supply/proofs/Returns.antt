@@ -28,11 +28,11 @@ use Rattle.supply.specs.Return.{registersReturned, matchCounts, flagsRet
 
 module _ (rs : List ℕ) where
   -- ---- the two cases of a return
-  registers-stopped : (n : ℕ) → stopped rs ≡ true → registersReturned n rs ≡ rs
+  pub registers-stopped : (n : ℕ) → stopped rs ≡ true → registersReturned n rs ≡ rs
   unfolding registersReturned
   registers-stopped n t = sym (on-true _ _ t)
 
-  registers-running : (n : ℕ) → stopped rs ≡ false → registersReturned n rs ≡ withClock rs (moved (clockOf rs) n)
+  pub registers-running : (n : ℕ) → stopped rs ≡ false → registersReturned n rs ≡ withClock rs (moved (clockOf rs) n)
   unfolding registersReturned
   registers-running n t = sym (on-false _ _ t)
 

@@ -22,7 +22,7 @@ use Rattle.panel.specs.PowerUp.{panelPoweredUp}
 unfoldable pub registersReturned : ℕ → List ℕ → List ℕ
 registersReturned n rs = cond (stopped rs) rs (withClock rs (moved (clockOf rs) n))
 
--- a match of a second reached counts with both alarm bits
+-- a match of a second reached counts with the oscillator running and both alarm bits set
 unfoldable pub matchCounts : ℕ → List ℕ → Bool
 matchCounts n rs = not (stopped rs) && (AFE rs && ABE rs) && anyReached (matches (alarmOf rs)) (clockOf rs) n
 

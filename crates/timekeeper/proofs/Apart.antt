@@ -1,21 +1,23 @@
 -- What writing a calendar leaves alone: the registers from 08h on, the flag bits, reserved bits and a byte's size. Assumes nothing.
-use Prim.Native.Nat.{ℕ, _+_, _*_, _/_, _%_, _<_}
-use mathlib.Core.Path.{_≡_, refl, ap, _∙_}
+use Prim.Native.Nat.{ℕ, _+_, _-_, _*_, _/_, _%_, _≤_, _<_}
+use mathlib.Core.Path.{_≡_, refl, sym, ap, _∙_}
 use mathlib.Core.Bool.{true}
+use mathlib.Core.Logic.{⊎-elim}
 use mathlib.Core.List.{List, _∷_}
 use native.Mathlib.Omega.{arith}
-use lib.ListN.{length, drop, length-drop}
-use lib.Seq.{take-all}
+use lib.ListN.{length, getD, drop, length-drop}
+use lib.Seq.{take-all, getD-drop}
 use lib.Dec.{eqb}
 use borrow.Author.Tests.{lt-ltb, eq-eqb}
 use Rattle.common.specs.Spell.{spell}
 use Rattle.common.proofs.Tests.{each, all-hold}
 use Rattle.common.proofs.Each.{each-at, done, _also_}
 use Rattle.common.proofs.Spell.{spell-part}
+use Rattle.common.proofs.Order.{lt-or-le}
 use Rattle.calendar.specs.declared.Clock.{Clock}
 use Rattle.calendar.specs.Clock.{fullYear, Valid}
 use Rattle.calendar.proofs.Date.{date-31}
-use Rattle.registers.specs.Names.{at, SECONDS, HOURS, WATCHDOG, stopped, MD-H, M-MS, twelveHours, AFE, ABE, WDFEn}
+use Rattle.registers.specs.Names.{at, SECONDS, HOURS, YEAR, WATCHDOG, stopped, MD-H, M-MS, twelveHours, AFE, ABE, WDFEn}
 use Rattle.registers.specs.Written.{reservedTests, reservedClear}
 use Rattle.timekeeper.specs.Bcd.{bcd}
 use Rattle.timekeeper.specs.Clock.{underB7, underB7B6, withClock}
@@ -44,6 +46,23 @@ module _ (rs : List ℕ) (c : Clock) where
   pub with-drop : length rs ≡ 16 → drop 8 (withClock rs c) ≡ drop 8 rs
   unfolding withClock
   with-drop n = spell-part 8 8 rs (omega arith) ∙ take-all 8 (drop 8 rs) (simp length-drop (omega arith))
+
+  with-first : at (withClock rs c) 0 ≡ at rs 0
+  unfolding withClock
+  with-first = refl
+
+  -- all but 01h to 07h
+  pub with-at : length rs ≡ 16 → (k : ℕ) → (SECONDS ≤ k → k ≤ YEAR → ⊥) → at (withClock rs c) k ≡ at rs k
+  with-at n k h =
+      ⊎-elim (λ (l : k < 1). let e : k ≡ 0 = omega arith in ap (at (withClock rs c)) e ∙ with-first ∙ ap (at rs) (sym e))
+      (λ (m : 1 ≤ k). ⊎-elim (λ (l : k < 8). absurd (h m (omega arith))) (λ (m : 8 ≤ k). behind m) (lt-or-le k 8))
+      (lt-or-le k 1)
+    where
+      behind : 8 ≤ k → at (withClock rs c) k ≡ at rs k
+      behind m =
+          let e : 8 + (k - 8) ≡ k = omega arith in
+          ap (at (withClock rs c)) (sym e) ∙ sym (getD-drop 8 (withClock rs c) (k - 8) 0)
+          ∙ ap (λ (l : List ℕ). getD l (k - 8) 0) (with-drop n) ∙ getD-drop 8 rs (k - 8) 0 ∙ ap (at rs) e
 
   pub with-stopped : stopped (withClock rs c) ≡ stopped rs
   unfolding withClock

@@ -14,7 +14,7 @@ use Rattle.effects.specs.declared.Written.{Written}
 use Rattle.effects.specs.Configure.{configured, maskSet, guardReloaded}
 use Rattle.effects.specs.Write.{answer, registersAnswer}
 use Rattle.effects.specs.Clear.{storeCleared, remoteCleared, interruptsCleared}
-use Rattle.effects.specs.Execute.{dataOf, coreExecuted, commandAnswer}
+use Rattle.effects.specs.Execute.{dataOf, commandAnswer}
 use Rattle.effects.proofs.execute.Statement.{statement}
 use Rattle.effects.proofs.execute.Tie as tie
 

@@ -6,7 +6,6 @@ use borrow.Author.Needs.{needs}
 use Rattle.common.proofs.Choice.{ap-cond}
 use Rattle.command.specs.declared.Command.{Command}
 use Rattle.command.specs.declared.Command.the-variants.{Configure, ConfigureDigits, WriteDigits, WriteRegisters, ReadKeys, ReadRemote, ReadInterrupts, ReadRegisters, SetDisplay, SetHotKeys, Standby, ReloadGuard}
-use Rattle.controller.specs.declared.Core.{Core}
 use Rattle.display.specs.declared.Display.{Display}
 use Rattle.effects.specs.declared.Written.{Written}
 use Rattle.effects.specs.Write.{answer}
