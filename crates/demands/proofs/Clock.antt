@@ -1,27 +1,33 @@
 -- Demand 2: a clock register changes by time, a 50h with a byte for it and power-up alone, whatever bytes the image held. Assumes
 -- nothing.
-use Prim.Native.Nat.{ℕ, _≤_}
+use Prim.Native.Nat.{ℕ, _≤_, _<_}
 use mathlib.Core.Path.{_≡_, refl, sym, ap, _∙_}
-use mathlib.Core.Bool.{false, not, _&&_, true≢false}
+use mathlib.Core.Bool.{true, false, not, true≢false}
 use mathlib.Core.Logic.{⊎-elim}
 use mathlib.Core.List.{List, [], _∷_}
-use lib.Dec.{eqb, leb}
+use lib.Dec.{eqb}
 use lib.ListN.{length}
-use borrow.Author.Tests.{eqb-true, eqb-false, le-leb, not-false}
-use Rattle.common.proofs.Choice.{of-cond, by-cases, and-both, not-other}
+use borrow.Author.Tests.{eqb-true, eqb-false, eq-eqb, not-false}
+use Rattle.common.proofs.Choice.{of-cond, by-cases, not-other}
 use Rattle.remote.specs.declared.Received.{Received}
 use Rattle.remote.specs.declared.Received.the-variants.{Key, NoKey}
 use Rattle.remote.specs.Frame.{keyOf}
 use Rattle.command.specs.Codes.{WRITE-REGISTERS}
 use Rattle.command.specs.Decode.{commandOf}
 use Rattle.command.specs.Refusals.{byte}
+use Rattle.calendar.specs.declared.Clock.{Clock}
+use Rattle.calendar.specs.Clock.{moved}
+use Rattle.calendar.proofs.Moved.{moved-none}
+use Rattle.calendar.proofs.Carry.{next-moved}
 use Rattle.registers.specs.Names.{at, SECONDS, MONTH, YEAR, stopped}
-use Rattle.timekeeper.specs.Clock.{withClock}
+use Rattle.timekeeper.specs.Clock.{clockOf, validCalendar, withClock}
+use Rattle.timekeeper.proofs.Clock.{valid-clock, with-clock}
 use Rattle.timekeeper.proofs.Apart.{with-at}
 use Rattle.controller.specs.declared.Core.{Core}
 use Rattle.controller.specs.declared.Rtc.{Rtc}
 use Rattle.controller.specs.Sound.{SoundRtc}
-use Rattle.properties.specs.Causes.{secondPasses, nextSecond}
+use Rattle.properties.specs.Causes.{secondPasses}
+use Rattle.properties.proofs.SoundParts.{valid-clock-of}
 use Rattle.properties.proofs.Kept.{registers-ticked, rtc-sampled, rtc-keyed, rtc-readySet, rtc-wakeUpSet}
 use Rattle.effects.specs.Write.{touched}
 use Rattle.effects.specs.Execute.{dataOf}
@@ -29,23 +35,37 @@ use Rattle.panel.specs.declared.Panel.{Panel}
 use Rattle.image.specs.Layout.{Bytes}
 use Rattle.image.specs.Image.{registersIn, decoded}
 use Rattle.supply.specs.Return.{registersReturned}
-use Rattle.supply.proofs.Returns.{registers-stopped}
-use Rattle.supply.proofs.Kept.{registers-none, registers-apart}
+use Rattle.supply.proofs.Returns.{registers-stopped, registers-running}
 use Rattle.stled325.specs.Calls.{high, keyedBy}
 use Rattle.demands.specs.Event.{Event, powerUp, tick, sample, frame, ready, wakeUp, command, show, lines, supplyReturn, Given, panelAfter, after, ValidImage}
-use Rattle.demands.specs.Clock.{ofCalendar, writesRegister, changesRegister, Step, afterAll, AllGiven, Quiet}
+use Rattle.demands.specs.Clock.{timeChanges, writesRegister, changesRegister, Step, afterAll, AllGiven, Quiet}
 use Rattle.demands.proofs.Refusals.{refused-untouched}
 use Rattle.demands.proofs.Commands.{write-byte, registers-executed, written-apart}
 use Rattle.demands.proofs.Valid.{valid-sound, command-holds, power-up-or-valid, accepted-panel, stays-valid}
+
+-- ---- Time
+
+module _ (rs : List ℕ) (k : ℕ) where
+  unchanged : (n : ℕ) → timeChanges k rs n ≡ false → at (withClock rs (moved (clockOf rs) n)) k ≡ at rs k
+  unfolding timeChanges
+  unchanged n e = eqb-true _ _ (not-false (eqb (at (withClock rs (moved (clockOf rs) n)) k) (at rs k)) e)
+
+  module _ (sized : length rs ≡ 16) where
+    -- it changes none but 01h to 07h
+    pub time-apart : (SECONDS ≤ k → k ≤ YEAR → ⊥) → (n : ℕ) → timeChanges k rs n ≡ false
+    unfolding timeChanges
+    time-apart h n = ap not (eq-eqb _ _ (with-at rs (moved (clockOf rs) n) sized k h))
+
+    -- and none in no seconds
+    pub time-none : validCalendar rs ≡ true → at rs MONTH < 256 → timeChanges k rs 0 ≡ false
+    unfolding timeChanges
+    time-none v b = ap not (eq-eqb _ _ (ap (λ (x : List ℕ). at x k) (ap (withClock rs) (moved-none (clockOf rs) (valid-clock rs v b)) ∙ with-clock rs v sized b)))
 
 -- ---- One event
 
 rtc-keyedBy : (c : Core) (r : Received) → (keyedBy r c) .rtc ≡ c .rtc
 rtc-keyedBy c (Key a k) = rtc-keyed c a k
 rtc-keyedBy c NoKey = refl
-
-outside : (k : ℕ) → ofCalendar k ≡ false → SECONDS ≤ k → k ≤ YEAR → ⊥
-outside k f l m = true≢false (sym (and-both (leb SECONDS k) (leb k YEAR) (le-leb SECONDS k l) (le-leb k YEAR m)) ∙ f)
 
 module _ {l : List ℕ} (v : ValidImage l) (k : ℕ) where
   abbrev c : Core
@@ -63,28 +83,18 @@ module _ {l : List ℕ} (v : ValidImage l) (k : ℕ) where
   abbrev at-k : Rtc → ℕ
   at-k r = at (r .registers) k
 
-  -- time: a calendar that is moved on leaves all but 01h to 07h
   kept-tick : writesRegister k tick c ≡ false → same ((panelAfter tick (decoded l)) .core .rtc .registers)
   kept-tick n =
       ap (λ (x : List ℕ). at x k) (registers-ticked c)
       ∙ of-cond same (secondPasses c) _ _
-      (λ p. by-cases (same (withClock rs (nextSecond c))) (ofCalendar k)
-      (λ t. absurd (true≢false (sym p ∙ not-other (ofCalendar k) (secondPasses c) t n)))
-      (λ f. with-at rs (nextSecond c) refl k (outside k f)))
+      (λ p. ap (λ (x : Clock). at (withClock rs x) k) (next-moved (clockOf rs) (valid-clock-of sound))
+      ∙ unchanged rs k 1 (not-other (secondPasses c) (timeChanges k rs 1) p n))
       (λ p. refl)
 
   kept-return : (n : ℕ) → writesRegister k (supplyReturn n) c ≡ false → same (registersReturned n rs)
-  kept-return n w = by-cases (same (registersReturned n rs)) (ofCalendar k) (λ t. still (not-other (ofCalendar k) _ t w)) (λ f. registers-apart rs refl n k (outside k f))
-    where
-      ended : not (eqb n 0) ≡ false → same (registersReturned n rs)
-      ended e =
-          ap (λ (m : ℕ). at (registersReturned m rs) k) (eqb-true n 0 (not-false (eqb n 0) e))
-          ∙ ap (λ (x : List ℕ). at x k) (registers-none rs refl (sound .calendar) (sound .bytes MONTH))
-
-      still : (not (stopped rs) && not (eqb n 0)) ≡ false → same (registersReturned n rs)
-      still u =
-          by-cases (same (registersReturned n rs)) (stopped rs) (λ s. ap (λ (x : List ℕ). at x k) (registers-stopped rs n s))
-          (λ s. ended (not-other (not (stopped rs)) (not (eqb n 0)) (ap not s) u))
+  kept-return n w =
+      by-cases (same (registersReturned n rs)) (stopped rs) (λ s. ap (λ (x : List ℕ). at x k) (registers-stopped rs n s))
+      (λ s. ap (λ (x : List ℕ). at x k) (registers-running rs n s) ∙ unchanged rs k n (not-other (not (stopped rs)) (timeChanges k rs n) (ap not s) w))
 
   -- a command: 50h leaves what no data byte goes to, all others everything
   kept-command : (s o : List ℕ) → after (command s) l o .number ≡ 0 → writesRegister k (command s) c ≡ false → same ((panelAfter (command s) (decoded l)) .core .rtc .registers)

@@ -87,7 +87,7 @@ module _ {l : List ℕ} (v : ValidImage l) (low : stby l ≡ false) (a : ℕ) (m
   unfolding commandBy
   read-replies = accepted-leaves (read a surplus) l o read-accepted .1
 
--- ---- READ BACK: after an accepted 50h, and any events that leave register k alone, with STBY low
+-- ---- READ BACK: after an accepted 50h, and any events of which none may change register k, with STBY low
 
 module _ {l : List ℕ} (v : ValidImage l) (a : ℕ) (bytes : List ℕ) (g : Given (write a bytes)) (o : List ℕ) (w : after (write a bytes) l o .number ≡ 0)
     (k : ℕ) (most : k ≤ 15) (xs : List Step) (given : AllGiven xs) (q : Quiet k xs (after (write a bytes) l o .image))

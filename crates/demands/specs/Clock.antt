@@ -3,11 +3,13 @@ use Prim.Native.Nat.{ℕ}
 use mathlib.Core.Path.{_≡_}
 use mathlib.Core.Bool.{Bool, true, false, not, _&&_}
 use mathlib.Core.List.{List, [], _∷_}
-use lib.Dec.{eqb, leb}
+use lib.Dec.{eqb}
 use lib.ListN.{length}
 use Rattle.command.specs.Codes.{WRITE-REGISTERS}
 use Rattle.command.specs.Refusals.{byte}
-use Rattle.registers.specs.Names.{SECONDS, YEAR, stopped}
+use Rattle.calendar.specs.Clock.{moved}
+use Rattle.registers.specs.Names.{at, stopped}
+use Rattle.timekeeper.specs.Clock.{clockOf, withClock}
 use Rattle.controller.specs.declared.Core.{Core}
 use Rattle.properties.specs.Causes.{secondPasses}
 use Rattle.effects.specs.Write.{touched}
@@ -15,15 +17,15 @@ use Rattle.effects.specs.Execute.{dataOf}
 use Rattle.image.specs.Image.{decoded}
 use Rattle.demands.specs.Event.{Event, powerUp, tick, sample, frame, ready, wakeUp, command, show, lines, supplyReturn, Given, after}
 
--- the registers that time moves: 01h..07h
-abbrev pub ofCalendar : ℕ → Bool
-ofCalendar k = leb SECONDS k && leb k YEAR
+-- time changes register k: with the plain clock n seconds further on it holds another byte
+unfoldable pub timeChanges : ℕ → List ℕ → ℕ → Bool
+timeChanges k rs n = not (eqb (at (withClock rs (moved (clockOf rs) n)) k) (at rs k))
 
--- register k may change: by time, which is a tick that passes a second, or a supply return after some seconds with the oscillator
--- running; by a write, which is a 50h with a data byte for it; by power-up
+-- register k may change: by time, in a tick that passes a second or in a supply return with the oscillator running; by a write, which
+-- is a 50h with a data byte for it; by power-up
 abbrev pub writesRegister : ℕ → Event → Core → Bool
 writesRegister k powerUp c = true
-writesRegister k tick c = ofCalendar k && secondPasses c
+writesRegister k tick c = secondPasses c && timeChanges k (c .rtc .registers) 1
 writesRegister k (sample n) c = false
 writesRegister k (frame n) c = false
 writesRegister k (ready level) c = false
@@ -31,9 +33,9 @@ writesRegister k (wakeUp level) c = false
 writesRegister k (command s) c = eqb (byte s 0) WRITE-REGISTERS && touched (byte s 1) (length (dataOf s)) k
 writesRegister k show c = false
 writesRegister k lines c = false
-writesRegister k (supplyReturn n) c = ofCalendar k && (not (stopped (c .rtc .registers)) && not (eqb n 0))
+writesRegister k (supplyReturn n) c = not (stopped (c .rtc .registers)) && timeChanges k (c .rtc .registers) n
 
--- one of them that is accepted
+-- one of them that is accepted, even if it leaves the register the same
 abbrev pub changesRegister : ℕ → Event → List ℕ → List ℕ → Bool
 changesRegister k e l o = eqb (after e l o .number) 0 && writesRegister k e (decoded l .core)
 
@@ -56,7 +58,7 @@ abbrev pub AllGiven : List Step → Type 0
 AllGiven [] = Unit
 AllGiven (x ∷ xs) = Given (x .event) × AllGiven xs
 
--- none of the steps changes register k, each from the image that the one before left
+-- none of the steps is one that may change register k, each from the image that the one before left
 abbrev pub Quiet : ℕ → List Step → List ℕ → Type 0
 Quiet k [] l = Unit
 Quiet k (x ∷ xs) l = (changesRegister k (x .event) l (x .output) ≡ false) × Quiet k xs (afterStep x l)

@@ -26,6 +26,14 @@ module _ (c : Core) (low : c .power .stby ≡ false) where
   guard-low-ticked : {w : ℕ} → Sound w c → (ticked c) .power .guard .0 ≡ c .power .guard .0 - 1
   guard-low-ticked h = guard-ticked h ∙ ap (λ (b : Bool). cond b (cond (rtcEvent c) (guardLoad c .0) 0) (c .power .guard .0) - 1) low
 
+  -- a guard that is stopped stays so, and STBY low
+  pub stopped-ticked : {w : ℕ} → Sound w c → c .power .guard .0 ≡ 0 → ((ticked c) .power .stby ≡ false) × ((ticked c) .power .guard .0 ≡ 0)
+  unfolding guardEnds
+  stopped-ticked h z = (
+    stby-low-ticked ∙ ap (λ (b : Bool). b && guardStandby c) (ne-eqb (c .power .guard .0) 1 (λ e. omega arith)),
+    guard-low-ticked h ∙ omega arith,
+  )
+
 -- ---- Many ticks
 
 setup-ticks : (c : Core) (n : ℕ) → (ticks n c) .setup ≡ c .setup

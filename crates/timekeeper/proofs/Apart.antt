@@ -1,4 +1,4 @@
--- What writing a calendar leaves alone: the registers from 08h on, the flag bits, reserved bits and a byte's size. Assumes nothing.
+-- What writing a calendar leaves alone: all registers but 01h to 07h, the flag bits, reserved bits and a byte's size. Assumes nothing.
 use Prim.Native.Nat.{ℕ, _+_, _-_, _*_, _/_, _%_, _≤_, _<_}
 use mathlib.Core.Path.{_≡_, refl, sym, ap, _∙_}
 use mathlib.Core.Bool.{true}
