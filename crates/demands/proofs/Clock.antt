@@ -56,7 +56,7 @@ module _ (rs : List ℕ) (k : ℕ) where
     unfolding timeChanges
     time-apart h n = ap not (eq-eqb _ _ (with-at rs (moved (clockOf rs) n) sized k h))
 
-    -- and none in no seconds
+    -- and of a valid calendar none in no seconds
     pub time-none : validCalendar rs ≡ true → at rs MONTH < 256 → timeChanges k rs 0 ≡ false
     unfolding timeChanges
     time-none v b = ap not (eq-eqb _ _ (ap (λ (x : List ℕ). at x k) (ap (withClock rs) (moved-none (clockOf rs) (valid-clock rs v b)) ∙ with-clock rs v sized b)))

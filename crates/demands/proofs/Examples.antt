@@ -7,11 +7,12 @@ use mathlib.Core.List.{List, [], _∷_}
 use native.Mathlib.Omega.{arith}
 use lib.Dec.{eqb, lit<}
 use lib.ListN.{getD}
+use Rattle.common.specs.Fill.{upTo}
 use Rattle.common.proofs.Each.{each-at, done, _also_}
 use Rattle.calendar.specs.Date.{monthLength}
 use Rattle.command.specs.Refusals.{bytesNeeded, roomNeeded, groundsBy}
 use Rattle.command.specs.Decode.{commandBy}
-use Rattle.registers.specs.Names.{SECONDS, HOURS, YEAR, ALARM-MONTH, ALARM-HOUR}
+use Rattle.registers.specs.Names.{SECONDS, YEAR, ALARM-MONTH, ALARM-HOUR}
 use Rattle.registers.specs.Written.{stored, written}
 use Rattle.timekeeper.specs.Clock.{clockOf, validCalendar}
 use Rattle.controller.specs.Keys.{sampled, pressed}
@@ -19,6 +20,7 @@ use Rattle.controller.specs.Pins.{readySet}
 use Rattle.controller.specs.Standby.{raised}
 use Rattle.controller.specs.Tick.{secondPassed, clockTicked, watchdogTicked, guardTicked, ticked}
 use Rattle.effects.specs.Write.{registersWritten}
+use Rattle.output.specs.Output.{answered}
 use Rattle.properties.specs.Causes.{secondPasses}
 use Rattle.properties.proofs.Guard.{stopped-ticked}
 use Rattle.panel.specs.declared.Panel.{Panel}
@@ -32,7 +34,7 @@ use Rattle.demands.specs.Clock.{changesRegister, Step, afterAll, AllGive
 use Rattle.demands.proofs.Refusals.{grounds-exact}
 use Rattle.demands.proofs.Valid.{valid-sound, sound-valid, accepted-panel, stays-valid}
 use Rattle.demands.proofs.Clock.{time-apart}
-use Rattle.demands.proofs.ReadBack.{write, read, read-back-byte}
+use Rattle.demands.proofs.ReadBack.{write, read, read-back-byte, read-back-all}
 
 abbrev fresh : List ℕ
 fresh = encoded panelPoweredUp
@@ -61,21 +63,21 @@ time-accepted = refl
 pub steps-given : AllGiven steps
 steps-given = (tt, (lit< tt, (tt, tt)))
 
-pub steps-quiet : Quiet HOURS steps set
+pub steps-quiet : (k : ℕ) → Quiet k steps set
 unfolding decided isValid groundsBy bytesNeeded roomNeeded commandBy written stored validCalendar clockOf monthLength registersWritten
     secondPasses ticked guardTicked watchdogTicked clockTicked secondPassed raised sampled pressed
-steps-quiet = (refl, (refl, (refl, tt)))
+steps-quiet k = (refl, (refl, (refl, tt)))
 
 pub steps-awake : stby (afterAll steps set) ≡ false
 unfolding decided isValid groundsBy bytesNeeded roomNeeded commandBy written stored validCalendar clockOf monthLength registersWritten
     ticked guardTicked watchdogTicked clockTicked secondPassed raised sampled pressed readySet
 steps-awake = refl
 
--- 70h replies the hour that was set
-pub hour-read-back : getD (after (read 1 []) (afterAll steps set) (0 ∷ 0 ∷ 0 ∷ []) .output) 2 0 ≡ 0x12
-hour-read-back =
-    read-back-byte fresh-valid 1 time time-given [] time-accepted HOURS (omega arith) steps steps-given steps-quiet steps-awake
-    1 (omega arith) [] (0 ∷ 0 ∷ 0 ∷ []) (omega arith) 2 (omega arith) refl
+-- 70h replies the time that was set
+pub time-read-back : after (read 1 []) (afterAll steps set) (0 ∷ 0 ∷ 0 ∷ []) .output ≡ time
+unfolding answered upTo written stored
+time-read-back =
+    read-back-all fresh-valid 1 time time-given [] time-accepted steps steps-given (λ k m. steps-quiet k) steps-awake 1 (omega arith) [] (0 ∷ 0 ∷ 0 ∷ []) .1
 
 -- ---- An alarm every day at 07:30:00, from 0Ah on, then READY, which stops the guard: no number of ticks changes it
 

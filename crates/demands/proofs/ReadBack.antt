@@ -12,13 +12,15 @@ use lib.ListN.{length, getD, drop, List·getD-append}
 use lib.Seq.{getD-drop, getD-append-add}
 use borrow.Author.Tests.{le-ltb, ne-eqb}
 use Rattle.common.specs.Fill.{upTo}
+use Rattle.common.specs.Spell.{spell}
 use Rattle.common.proofs.Fill.{upTo-length, getD-any}
+use Rattle.common.proofs.Spell.{spell-all}
 use Rattle.command.specs.Codes.{WRITE-REGISTERS, READ-REGISTERS}
 use Rattle.command.specs.Refusals.{bytesNeeded, roomNeeded, groundsBy}
 use Rattle.command.specs.Decode.{commandBy}
 use Rattle.registers.specs.Names.{at}
 use Rattle.registers.specs.Written.{kept, written}
-use Rattle.registers.proofs.Written.{written-at}
+use Rattle.registers.proofs.Written.{written-length, written-at}
 use Rattle.effects.specs.Write.{registersWritten}
 use Rattle.output.specs.Output.{FILL, answered}
 use Rattle.panel.specs.declared.Panel.{Panel}
@@ -124,3 +126,27 @@ module _ {l : List ℕ} (v : ValidImage l) (a : ℕ) (bytes : List ℕ) (g : Giv
       read-back b under surplus out room .1 ∙ ap (at (written (registersIn l) a bytes)) (sym e)
       ∙ written-at (registersIn l) a bytes (omega (arith, write-most v a bytes g o w)) i (omega arith) hb
       ∙ ap (λ (x : ℕ). kept x (getD bytes i 0)) e
+
+-- ---- READ BACK, THE WHOLE REPLY: if none of the events may change any register
+
+same-spelt : (i n : ℕ) (l m : List ℕ) → ((k : ℕ) → k < i + n → getD l k 0 ≡ getD m k 0) → spell i n l ≡ spell i n m
+same-spelt i zero l m h = refl
+same-spelt i (suc n) l m h = λ j. h i (omega arith) j ∷ same-spelt (suc i) n l m (λ k b. h k (omega arith)) j
+
+module _ {l : List ℕ} (v : ValidImage l) (a : ℕ) (bytes : List ℕ) (g : Given (write a bytes)) (o : List ℕ) (w : after (write a bytes) l o .number ≡ 0)
+    (xs : List Step) (given : AllGiven xs) (q : (k : ℕ) → k ≤ 15 → Quiet k xs (after (write a bytes) l o .image))
+    (low : stby (afterAll xs (after (write a bytes) l o .image)) ≡ false) where
+  abbrev later : List ℕ
+  later = afterAll xs (after (write a bytes) l o .image)
+
+  all-written : registersIn later ≡ written (registersIn l) a bytes
+  all-written =
+      same-spelt 0 16 (registersIn later) (written (registersIn l) a bytes) (λ k b. still-written v a bytes g o w k (omega arith) xs given (q k (omega arith)) low)
+      ∙ spell-all 16 (written (registersIn l) a bytes) (written-length (registersIn l) a bytes)
+
+  -- 70h from any address replies the registers as the write left them
+  pub read-back-all : (b : ℕ) → b ≤ 15 → (surplus out : List ℕ)
+      → (after (read b surplus) later out .number ≡ 0) × (after (read b surplus) later out .output ≡ answered (drop b (written (registersIn l) a bytes)) (length out))
+  read-back-all b most surplus out =
+      let still = all-valid xs (stays-valid v (write a bytes) g o) given in
+      (read-accepted still low b most surplus out, read-replies still low b most surplus out ∙ ap (λ (rs : List ℕ). answered (drop b rs) (length out)) all-written)

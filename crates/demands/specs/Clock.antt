@@ -35,7 +35,7 @@ writesRegister k show c = false
 writesRegister k lines c = false
 writesRegister k (supplyReturn n) c = not (stopped (c .rtc .registers)) && timeChanges k (c .rtc .registers) n
 
--- one of them that is accepted, even if it leaves the register the same
+-- one of them that is accepted; power-up and 50h also where they leave the register the same
 abbrev pub changesRegister : ℕ → Event → List ℕ → List ℕ → Bool
 changesRegister k e l o = eqb (after e l o .number) 0 && writesRegister k e (decoded l .core)
 
