@@ -9,12 +9,10 @@ use native.Mathlib.Omega.{arith}
 use native.Mathlib.Nat.{eq-or-lt-of-le, le-of-suc-le-suc, not-suc-le-zero}
 use lib.Dec.{eqb, ltb}
 use lib.ListN.{length, getD, drop, List·getD-append}
-use lib.Seq.{getD-drop, getD-append-add}
+use lib.Seq.{getD-drop, getD-append-add, ext-getD}
 use borrow.Author.Tests.{le-ltb, ne-eqb}
 use Rattle.common.specs.Fill.{upTo}
-use Rattle.common.specs.Spell.{spell}
 use Rattle.common.proofs.Fill.{upTo-length, getD-any}
-use Rattle.common.proofs.Spell.{spell-all}
 use Rattle.command.specs.Codes.{WRITE-REGISTERS, READ-REGISTERS}
 use Rattle.command.specs.Refusals.{bytesNeeded, roomNeeded, groundsBy}
 use Rattle.command.specs.Decode.{commandBy}
@@ -129,10 +127,6 @@ module _ {l : List ℕ} (v : ValidImage l) (a : ℕ) (bytes : List ℕ) (g : Giv
 
 -- ---- READ BACK, THE WHOLE REPLY: if none of the events may change any register
 
-same-spelt : (i n : ℕ) (l m : List ℕ) → ((k : ℕ) → k < i + n → getD l k 0 ≡ getD m k 0) → spell i n l ≡ spell i n m
-same-spelt i zero l m h = refl
-same-spelt i (suc n) l m h = λ j. h i (omega arith) j ∷ same-spelt (suc i) n l m (λ k b. h k (omega arith)) j
-
 module _ {l : List ℕ} (v : ValidImage l) (a : ℕ) (bytes : List ℕ) (g : Given (write a bytes)) (o : List ℕ) (w : after (write a bytes) l o .number ≡ 0)
     (xs : List Step) (given : AllGiven xs) (q : (k : ℕ) → k ≤ 15 → Quiet k xs (after (write a bytes) l o .image))
     (low : stby (afterAll xs (after (write a bytes) l o .image)) ≡ false) where
@@ -141,8 +135,8 @@ module _ {l : List ℕ} (v : ValidImage l) (a : ℕ) (bytes : List ℕ) (g : Giv
 
   all-written : registersIn later ≡ written (registersIn l) a bytes
   all-written =
-      same-spelt 0 16 (registersIn later) (written (registersIn l) a bytes) (λ k b. still-written v a bytes g o w k (omega arith) xs given (q k (omega arith)) low)
-      ∙ spell-all 16 (written (registersIn l) a bytes) (written-length (registersIn l) a bytes)
+      ext-getD 0 (registersIn later) (written (registersIn l) a bytes) (sym (written-length (registersIn l) a bytes))
+      (λ k b. still-written v a bytes g o w k (omega arith) xs given (q k (omega arith)) low)
 
   -- 70h from any address replies the registers as the write left them
   pub read-back-all : (b : ℕ) → b ≤ 15 → (surplus out : List ℕ)
