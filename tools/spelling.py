@@ -5,7 +5,7 @@ usage: python3 tools/spelling.py [--list]     at the top of the repository, once
 
 A name that is defined in specs/ or proofs/ and has a dash or an inner capital is written in snake case, where it is defined and wherever it is cited: in
 specs/, in proofs/, in the clauses of src/ and between backquotes in the documents. A dash or an inner capital becomes an underscore; a number in capitals
-keeps them, as ALARM_MONTH. A lemma that would have its definition's name gets _lem. Types, facts and modules keep their capital; functions, types and
+keeps them, as ALARM_MONTH, but for two. A lemma that would have its definition's name gets _lem. Types, facts and modules keep their capital; functions, types and
 constants of src/ keep their names, and so do the names that the prover makes. --list prints the names and changes nothing.
 """
 
@@ -57,6 +57,12 @@ def renamed(texts):
             names[old] = new + "_lem"
     return names
 
+
+# Definitions in capitals that are no number, or that a clause cites beside a constant of the same name, which would be read in its place.
+CAPITALS = {
+    **{n: n.lower().replace("-", "_") for n in ("ABE", "AFE", "WDFEn", "BMB", "RB", "MD-H", "M-MS", "RPT1", "RPT2", "RPT3", "RPT4", "RPT5", "RPT6")},
+    **{n: n.lower().replace("-", "_") for n in ("IMAGE-LEN", "LIMIT", "MD-H-wins")},
+}
 
 # Lemmas that were in snake case already and whose name a definition gets now, by the files that cite both.
 LEMMAS = {
@@ -116,10 +122,10 @@ def main(argv):
     for path, text in texts.items():
         lines = text.splitlines(keepends=True)
         if path.endswith(".antt"):
-            here = names | {n: n + "_lem" for n in LEMMAS.get(os.path.relpath(path, root), ())}
+            here = names | CAPITALS | {n: n + "_lem" for n in LEMMAS.get(os.path.relpath(path, root), ())}
             new = "".join(turn_line(l, here) for l in lines)
         elif path.endswith(".rt"):
-            new = "".join(turn_line(l, names) if on else l for l, on in zip(lines, clause_lines(text)))
+            new = "".join(turn_line(l, names | CAPITALS) if on else l for l, on in zip(lines, clause_lines(text)))
         else:
             new = turn_quoted(text, names)
         if new != text:

@@ -1,6 +1,7 @@
 // The alarm: the match of a second, the first match of a day, and the first match among the seconds reached.
+#![tactic(auto)]
 ghost use Rattle.std.specs.Prelude.{◌≡◌, ◌-◌, ◌≤◌, ◌<◌, min};
-ghost use Rattle.calendar.specs.Clock.{LIMIT, Valid};
+ghost use Rattle.calendar.specs.Clock.{limit, Valid};
 ghost use Rattle.calendar.specs.Carry.{at_time};
 ghost use Rattle.alarm.specs.Search.{first_from};
 ghost use Rattle.alarm.specs.Skip.{candidate_after};
@@ -11,13 +12,13 @@ use calendar::Clock;
 use units::Seconds;
 
 // A field of the alarm: not compared where any is set.
-#[derive(Drop)]
+#[derive(Clone, Copy)]
 pub struct Field {
     pub any: bool,
     pub value: u32,
 }
 
-#[derive(Drop)]
+#[derive(Clone, Copy)]
 pub struct Alarm {
     pub second: Field,
     pub minute: Field,
@@ -146,7 +147,7 @@ pub fn first_on_day(a: Alarm, c: Clock, t: u32) -> u32
 // The least k from 1 to n such that the clock moved on k seconds matches, or n + 1: a walk over the days.
 fn walk_days(a: Alarm, c: Clock, n: u32) -> u32
     requires valid { Valid c }
-    requires n_bound { n ≤ LIMIT }
+    requires n_bound { n ≤ limit }
     ensures { result ≡ first_reached (matches a) c n }
 {
     let start = calendar::time_of(c);
@@ -169,7 +170,7 @@ fn walk_days(a: Alarm, c: Clock, n: u32) -> u32
 // The least count of seconds from 1 to n after which the clock matches, or n + 1; an impossible field costs no walk.
 pub fn first_match(a: Alarm, c: Clock, n: Seconds) -> Seconds
     requires valid { Valid c }
-    requires n_bound { n.0 ≤ LIMIT }
+    requires n_bound { n.0 ≤ limit }
     ensures { result.0 ≡ first_reached (matches a) c n.0 }
 {
     let limit = n.0;
@@ -182,7 +183,7 @@ pub fn first_match(a: Alarm, c: Clock, n: Seconds) -> Seconds
 // Whether one of the n seconds reached matches.
 pub fn any_match(a: Alarm, c: Clock, n: Seconds) -> bool
     requires valid { Valid c }
-    requires n_bound { n.0 ≤ LIMIT }
+    requires n_bound { n.0 ≤ limit }
     ensures { result ≡ any_reached (matches a) c n.0 }
 {
     let k = first_match(a, c, n);

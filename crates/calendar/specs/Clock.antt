@@ -8,8 +8,8 @@ abbrev pub cycle : ℕ
 cycle = 86_400 * calendar_days
 
 -- the longest time that is moved on at once, in seconds: 366 days ("Refusal numbers", 10)
-abbrev pub LIMIT : ℕ
-LIMIT = 31_622_400
+abbrev pub limit : ℕ
+limit = 31_622_400
 
 -- century and two digits as one number
 abbrev pub full_year : Clock → ℕ

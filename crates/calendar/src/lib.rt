@@ -1,7 +1,9 @@
 // The calendar: leap years, months, the carry of a second and of a day, and moving on by a count of seconds.
+#![tactic(auto)]
+
 ghost use Rattle.std.specs.Prelude.{◌≡◌, ◌≤◌, ◌*◌, ◌+◌, cond};
 ghost use Rattle.calendar.specs.Date.{leap, month_length};
-ghost use Rattle.calendar.specs.Clock.{LIMIT, Valid, time_of, moved};
+ghost use Rattle.calendar.specs.Clock.{limit, Valid, time_of, moved};
 ghost use Rattle.calendar.specs.Carry.{at_time, next_weekday, next_day, next};
 
 use units::Seconds;
@@ -10,7 +12,7 @@ use units::Seconds;
 pub const LIMIT: u32 = 31_622_400;
 
 // Century 0..3, year 00..99, month 1..12, date from 1, weekday 1..7, hour 0..23, minute and second 0..59.
-#[derive(Drop)]
+#[derive(Clone, Copy)]
 pub struct Clock {
     pub century: u32,
     pub year: u32,
@@ -131,7 +133,7 @@ pub fn at_time(mut c: Clock, t: u32) -> Clock
 // The clock moved on n seconds: a walk over the midnights passed.
 pub fn move_on(c: Clock, n: Seconds) -> Clock
     requires valid { Valid c }
-    requires n_bound { n.0 ≤ LIMIT }
+    requires n_bound { n.0 ≤ limit }
     ensures { result ≡ moved c n.0 }
 {
     let end = time_of(c) + n.0;

@@ -1,5 +1,6 @@
 // Decoding a command: its bytes are a command, or are refused by number.
 // Below, c is the first byte, a the second and b the third, 0 where there is none; n counts the bytes, and room those of the output.
+#![tactic(auto)]
 ghost use Rattle.std.specs.Prelude.{◌≡◌};
 ghost use Rattle.common.specs.Grounds.{first_ground};
 ghost use Rattle.command.specs.Codes.{configures, gives_digits, sets_display, listed};
@@ -25,7 +26,7 @@ const STANDBY: u8 = 0xC1;
 
 const RELOAD_GUARD: u8 = 0xC2;
 
-#[derive(Drop)]
+#[derive(Clone, Copy)]
 pub enum Command {
     // Configuration bits; protocol and guard value.
     Configure(u8, u8),
@@ -48,7 +49,7 @@ pub enum Command {
     ReloadGuard,
 }
 
-#[derive(Drop)]
+#[derive(Clone, Copy)]
 pub enum Decoded {
     Accepted(Command),
     Refused(u32),

@@ -4,7 +4,7 @@ use Rattle.std.specs.Int.Bits.{bit_or}
 use Rattle.calendar.specs.declared.Clock.{Clock}
 use Rattle.calendar.specs.Carry.{next}
 use Rattle.alarm.specs.Match.{matches}
-use Rattle.registers.specs.Names.{stopped, AFE, WDFEn}
+use Rattle.registers.specs.Names.{stopped, afe, wdfen}
 use Rattle.timekeeper.specs.Clock.{clock_of, with_clock}
 use Rattle.timekeeper.specs.Alarm.{alarm_of}
 use Rattle.units.specs.Units.{one_more, fills_second}
@@ -15,7 +15,7 @@ use Rattle.controller.specs.Standby.{standby_begun, raised}
 -- the second passes, and the clock stands at k: with AFE set a match raises the alarm flag and an RTC event
 abbrev pub passed_to : Core → Clock → Core
 passed_to c k =
-    cond (AFE c.rtc.registers && matches (alarm_of c.rtc.registers) k)
+    cond (afe c.rtc.registers && matches (alarm_of c.rtc.registers) k)
     (raised RTC (with_rtc c (rtc (with_clock c.rtc.registers k) (sixteenths 0) (bit_or c.rtc.flags ALARM_FLAG) c.rtc.watchdog)))
     (with_rtc c (rtc (with_clock c.rtc.registers k) (sixteenths 0) c.rtc.flags c.rtc.watchdog))
 
@@ -32,11 +32,11 @@ sixteenth_passed c =
 unfoldable pub clock_ticked : Core → Core
 clock_ticked c = cond (stopped c.rtc.registers) c (sixteenth_passed c)
 
--- second step: the watchdog, if running and the oscillator runs, falls by one; at 0, with WDFEn, its flag and an RTC event
+-- second step: the watchdog, if running and the oscillator runs, falls by one; at 0, with wdfen, its flag and an RTC event
 unfoldable pub watchdog_ticked : Core → Core
 watchdog_ticked c =
     cond (eqb c.rtc.watchdog.0 0 || stopped c.rtc.registers) c
-    (cond (eqb c.rtc.watchdog.0 1 && WDFEn c.rtc.registers)
+    (cond (eqb c.rtc.watchdog.0 1 && wdfen c.rtc.registers)
     (raised RTC (with_rtc c (rtc c.rtc.registers c.rtc.sixteenths (bit_or c.rtc.flags WATCHDOG_FLAG) (sixteenths (c.rtc.watchdog.0 - 1)))))
     (with_rtc c (rtc c.rtc.registers c.rtc.sixteenths c.rtc.flags (sixteenths (c.rtc.watchdog.0 - 1)))))
 

@@ -1,5 +1,6 @@
 // What both panel kinds share: the state by value, and the events, which stand by subject in the modules. Each event takes the state and gives
 // the next one.
+#![tactic(auto)]
 ghost use Rattle.std.specs.Prelude.{◌≡◌, ◌≤◌};
 ghost use Rattle.controller.specs.Standby.{standby_begun, standby_ended, raised};
 
@@ -35,7 +36,7 @@ pub const ALARM_FLAG: u8 = 1;
 const WATCHDOG_FLAG: u8 = 2;
 
 // The clock registers, the sixteenths, the flags (b0 alarm, b1 watchdog) and what is left of the watchdog, 0 where it is not running.
-#[derive(Drop)]
+#[derive(Clone, Copy)]
 pub struct Rtc {
     pub registers: [u8; 16],
     pub sixteenths: Sixteenths,
@@ -44,7 +45,7 @@ pub struct Rtc {
 }
 
 // The lines READY, WAKE_UP and STBY, and what is left of the guard, 0 where it is not running.
-#[derive(Drop)]
+#[derive(Clone, Copy)]
 pub struct Power {
     pub ready: bool,
     pub wakeup: bool,
@@ -53,7 +54,7 @@ pub struct Power {
 }
 
 // The last configuration bits, the remote protocol and the guard value.
-#[derive(Drop)]
+#[derive(Clone, Copy)]
 pub struct Setup {
     pub configuration: u8,
     pub protocol: u8,
@@ -61,7 +62,7 @@ pub struct Setup {
 }
 
 // The hot-key mask, the last sample, the accepted keys and the key store, wide enough for both panel kinds.
-#[derive(Drop)]
+#[derive(Clone, Copy)]
 pub struct Keys {
     pub mask: u32,
     pub sample: u32,
@@ -70,14 +71,14 @@ pub struct Keys {
 }
 
 // The remote key: fresh 0 or 1, address and command.
-#[derive(Drop)]
+#[derive(Clone, Copy)]
 pub struct Remote {
     pub fresh: u8,
     pub address: u8,
     pub command: u8,
 }
 
-#[derive(Drop)]
+#[derive(Clone, Copy)]
 pub struct Core {
     pub rtc: Rtc,
     pub power: Power,

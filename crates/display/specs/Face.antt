@@ -1,6 +1,6 @@
 -- The clock face on digits 1 to 4 (document 01, "Show": MD_H and M_MS).
 use Rattle.std.specs.Prelude.{ℕ, ◌%◌, cond, List, [], ◌∷◌}
-use Rattle.registers.specs.Names.{at, SECONDS, MINUTES, DATE, MONTH, MD_H, M_MS}
+use Rattle.registers.specs.Names.{at, SECONDS, MINUTES, DATE, MONTH, md_h, m_ms}
 use Rattle.display.specs.declared.Pair.{Pair}
 use Rattle.display.specs.Font.{nibbles, pointed}
 use Rattle.display.specs.Hours.{hours_shown}
@@ -25,6 +25,6 @@ placed l r = l.tens ∷ pointed l.ones ∷ r.tens ∷ r.ones ∷ []
 -- MD_H gives month and date, else M_MS minutes and seconds, else hours and minutes
 unfoldable pub face_of : List ℕ → List ℕ
 face_of rs =
-    cond (MD_H rs) (placed (nibbles (month rs)) (nibbles (date rs)))
-    (cond (M_MS rs) (placed (nibbles (minutes rs)) (nibbles (seconds rs)))
+    cond (md_h rs) (placed (nibbles (month rs)) (nibbles (date rs)))
+    (cond (m_ms rs) (placed (nibbles (minutes rs)) (nibbles (seconds rs)))
     (placed (hours_shown rs) (nibbles (minutes rs))))

@@ -1,4 +1,5 @@
 // What the panel shows: digits, clock face, and the lines STBY, MUTE and IRQ.
+#![tactic(auto)]
 ghost use Rattle.std.specs.Prelude.{◌≡◌, take};
 ghost use Rattle.display.specs.Font.{segments, nibbles};
 ghost use Rattle.display.specs.Hours.{leading, unpadded, hours_shown};
@@ -38,7 +39,7 @@ const MUTE: u8 = 2;
 const IRQ: u8 = 4;
 
 // Digits in use 1..5; b4 on, b3..b0 brightness; the digit bytes.
-#[derive(Drop)]
+#[derive(Clone, Copy)]
 pub struct Display {
     pub digits: u8,
     pub control: u8,
@@ -46,7 +47,7 @@ pub struct Display {
 }
 
 // The segments of two digits.
-#[derive(Drop)]
+#[derive(Clone, Copy)]
 pub struct Pair {
     pub tens: u8,
     pub ones: u8,

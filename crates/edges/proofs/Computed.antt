@@ -10,7 +10,7 @@ use Rattle.alarm.specs.declared.Alarm.{Alarm}
 use Rattle.calendar.specs.declared.Clock.{Clock}
 use Rattle.alarm.specs.Match.{matches}
 use Rattle.alarm.specs.Reached.{any_reached}
-use Rattle.registers.specs.Names.{stopped, AFE, ABE}
+use Rattle.registers.specs.Names.{stopped, afe, abe}
 use Rattle.timekeeper.specs.Clock.{clock_of}
 use Rattle.timekeeper.specs.Alarm.{alarm_of}
 use Rattle.controller.specs.declared.Rtc.{Rtc}
@@ -32,11 +32,11 @@ any_by_lem : (a : Alarm) (c : Clock) (n : ℕ) → any_by a c n ≡ any_reached 
 any_by_lem a c n = of_cond (λ (b : Bool). b ≡ any_reached (matches a) c n) (daily a) _ _ (λ h. daily_reached a h c n) (λ e. refl)
 
 abbrev pub counts_by : ℕ → List ℕ → Bool
-counts_by n rs = not (stopped rs) && (AFE rs && ABE rs) && any_by (alarm_of rs) (clock_of rs) n
+counts_by n rs = not (stopped rs) && (afe rs && abe rs) && any_by (alarm_of rs) (clock_of rs) n
 
 counts_by_lem : (n : ℕ) (rs : List ℕ) → counts_by n rs ≡ match_counts n rs
 unfolding match_counts
-counts_by_lem n rs = ap (λ (b : Bool). not (stopped rs) && (AFE rs && ABE rs) && b) (any_by_lem (alarm_of rs) (clock_of rs) n)
+counts_by_lem n rs = ap (λ (b : Bool). not (stopped rs) && (afe rs && abe rs) && b) (any_by_lem (alarm_of rs) (clock_of rs) n)
 
 -- the supply return's outcome, whether a match counts given
 abbrev pub rtc_by : Bool → ℕ → Rtc → Rtc

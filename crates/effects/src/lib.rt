@@ -1,4 +1,5 @@
 // What commands make of the state that both panel kinds share.
+#![tactic(auto)]
 ghost use Rattle.std.specs.Prelude.{◌≡◌, cond};
 ghost use Rattle.effects.specs.Configure.{configured, mask_set, guard_reloaded};
 ghost use Rattle.effects.specs.Write.{touched, calendar_touched, answer, registers_answer};
@@ -11,7 +12,7 @@ use registers::{DATE, HOURS, MINUTES, MONTH, SECONDS, WATCHDOG, WEEKDAY, YEAR};
 use units::{Seconds, Sixteenths};
 
 // What a command leaves: the state, and the number 0 or 9.
-#[derive(Drop)]
+#[derive(Clone, Copy)]
 pub struct Written {
     pub core: Core,
     pub refusal: u32,

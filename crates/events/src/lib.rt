@@ -1,6 +1,7 @@
 // What the calls do to an image of 64 bytes that they found valid, and what they read of it: decode, event, encode.
+#![tactic(auto)]
 ghost use Rattle.std.specs.Prelude.{◌≡◌, ◌≤◌, length};
-ghost use Rattle.calendar.specs.Clock.{LIMIT, Valid};
+ghost use Rattle.calendar.specs.Clock.{limit, Valid};
 ghost use Rattle.timekeeper.specs.Clock.{clock_of};
 ghost use Rattle.controller.specs.Tick.{ticked};
 ghost use Rattle.controller.specs.Keys.{sampled};
@@ -8,7 +9,7 @@ ghost use Rattle.controller.specs.Remote.{keyed};
 ghost use Rattle.controller.specs.Pins.{ready_set, wake_up_set};
 ghost use Rattle.panel.specs.State.{on_core};
 ghost use Rattle.panel.specs.PowerUp.{panel_powered_up};
-ghost use Rattle.image.specs.Layout.{IMAGE_LEN};
+ghost use Rattle.image.specs.Layout.{image_len};
 ghost use Rattle.image.specs.Image.{decoded, encoded};
 ghost use Rattle.supply.specs.Return.{panel_returned};
 ghost use Rattle.events.specs.Serve.{number_left, image_left, output_left};
@@ -21,7 +22,7 @@ use units::Seconds;
 
 // The panel in an image of 64 bytes.
 fn panel_in(image: &[u8]) -> Panel
-    requires { length image.now ≡ IMAGE_LEN }
+    requires { length image.now ≡ image_len }
     ensures { result ≡ decoded image.now }
 {
     image::decode(image::load(image))
@@ -29,7 +30,7 @@ fn panel_in(image: &[u8]) -> Panel
 
 // Stores the panel as the image.
 fn store(image: &mut [u8], p: Panel)
-    requires { length image.old ≡ IMAGE_LEN }
+    requires { length image.old ≡ image_len }
     ensures { image.new ≡ encoded p }
 {
     image::save(image, image::encode(p));
@@ -37,7 +38,7 @@ fn store(image: &mut [u8], p: Panel)
 
 // The image at power-up.
 pub fn power_up(image: &mut [u8])
-    requires { length image.old ≡ IMAGE_LEN }
+    requires { length image.old ≡ image_len }
     ensures { image.new ≡ encoded panel_powered_up }
 {
     store(image, Panel::power_up());
@@ -45,7 +46,7 @@ pub fn power_up(image: &mut [u8])
 
 // A tick, a sixteenth of a second.
 pub fn tick(image: &mut [u8])
-    requires { length image.old ≡ IMAGE_LEN }
+    requires { length image.old ≡ image_len }
     ensures { image.new ≡ encoded (on_core ticked (decoded image.old)) }
 {
     let p = panel_in(image);
@@ -54,7 +55,7 @@ pub fn tick(image: &mut [u8])
 
 // A key sample.
 pub fn sample_keys(image: &mut [u8], sample: u32)
-    requires { length image.old ≡ IMAGE_LEN }
+    requires { length image.old ≡ image_len }
     ensures { image.new ≡ encoded (on_core (λ c. sampled c sample) (decoded image.old)) }
 {
     let p = panel_in(image);
@@ -63,7 +64,7 @@ pub fn sample_keys(image: &mut [u8], sample: u32)
 
 // The READY pin takes a level.
 pub fn set_ready(image: &mut [u8], level: bool)
-    requires { length image.old ≡ IMAGE_LEN }
+    requires { length image.old ≡ image_len }
     ensures { image.new ≡ encoded (on_core (λ c. ready_set c level) (decoded image.old)) }
 {
     let p = panel_in(image);
@@ -72,7 +73,7 @@ pub fn set_ready(image: &mut [u8], level: bool)
 
 // The WAKE_UP pin takes a level.
 pub fn set_wake_up(image: &mut [u8], level: bool)
-    requires { length image.old ≡ IMAGE_LEN }
+    requires { length image.old ≡ image_len }
     ensures { image.new ≡ encoded (on_core (λ c. wake_up_set c level) (decoded image.old)) }
 {
     let p = panel_in(image);
@@ -81,7 +82,7 @@ pub fn set_wake_up(image: &mut [u8], level: bool)
 
 // A remote key.
 pub fn receive_key(image: &mut [u8], address: u8, command: u8)
-    requires { length image.old ≡ IMAGE_LEN }
+    requires { length image.old ≡ image_len }
     ensures { image.new ≡ encoded (on_core (λ c. keyed c address command) (decoded image.old)) }
 {
     let p = panel_in(image);
@@ -90,9 +91,9 @@ pub fn receive_key(image: &mut [u8], address: u8, command: u8)
 
 // The supply is back after n seconds.
 pub fn return_supply(image: &mut [u8], n: Seconds)
-    requires image_len { length image.old ≡ IMAGE_LEN }
+    requires image_len { length image.old ≡ image_len }
     requires valid { Valid (clock_of (decoded image.old).core.rtc.registers) }
-    requires n_bound { n.0 ≤ LIMIT }
+    requires n_bound { n.0 ≤ limit }
     ensures { image.new ≡ encoded (panel_returned n.0 (decoded image.old)) }
 {
     let p = panel_in(image);
@@ -125,7 +126,7 @@ pub fn interrupt(image: [u8; 64]) -> u8
 
 // Writes the five bytes of show.
 pub fn show(image: &[u8], digits: &mut [u8])
-    requires image_len { length image.now ≡ IMAGE_LEN }
+    requires image_len { length image.now ≡ image_len }
     requires digits_len { length digits.old ≡ 5 }
     ensures { digits.new ≡ shown_in (decoded image.now) }
 {
@@ -147,7 +148,7 @@ fn shown_by(p: Panel) -> [u8; 5]
 // Serves a command that passed grounds 1 to 8, whose bytes are s: the reply is of the panel as it was. A write that leaves no valid
 // calendar is 9.
 pub fn serve(image: &mut [u8], k: Command, s: &[u8], out: &mut [u8]) -> u32
-    requires { length image.old ≡ IMAGE_LEN }
+    requires { length image.old ≡ image_len }
     ensures value { result ≡ number_left image.old k s.now }
     ensures image_after { image.new ≡ image_left image.old k s.now }
     ensures out_after { out.new ≡ output_left image.old k s.now out.old }

@@ -7,12 +7,12 @@ use lib.ListN.{length, get_or, replicate}
 use Rattle.common.specs.Spell.{spell}
 use Rattle.common.proofs.Each.{Each, each_at, done, ◌also◌}
 use Rattle.panel.specs.declared.Panel.{Panel}
-use Rattle.image.specs.Layout.{IMAGE_LEN, byte_at, low_byte, high_byte, word_bytes}
+use Rattle.image.specs.Layout.{image_len, byte_at, low_byte, high_byte, word_bytes}
 use Rattle.image.specs.Image.{encoded}
 use Rattle.image.specs.Sound.{SoundPanel}
 use Rattle.image.proofs.Numbers.{pins_small}
 
-pub encoded_length : (p : Panel) → length (encoded p) ≡ IMAGE_LEN
+pub encoded_length : (p : Panel) → length (encoded p) ≡ image_len
 encoded_length p = refl
 
 abbrev Byte : ℕ → Type 0

@@ -18,7 +18,7 @@ use Rattle.controller.specs.Sound.{Sound}
 use Rattle.controller.specs.State.{rtc, power, keys, sixteenths}
 use Rattle.panel.specs.declared.Panel.{Panel}
 use Rattle.image.specs.Layout as at
-use Rattle.image.specs.Layout.{IMAGE_LEN, byte_at, Bytes, word_at, low_byte, high_byte}
+use Rattle.image.specs.Layout.{image_len, byte_at, Bytes, word_at, low_byte, high_byte}
 use Rattle.image.specs.Image.{rtc_in, power_in, setup_in, keys_in, display_in, decoded, pins_byte, status_bytes, words_of, encoded}
 use Rattle.image.specs.Sound.{SoundPanel}
 use Rattle.image.proofs.Numbers.{low_back, high_back, word_back, setup_back, protocol_back, value_back, pins_back, bits_back, byte_back}
@@ -27,7 +27,7 @@ use Rattle.image.proofs.Numbers.{low_back, high_back, word_back, setup_back, pro
 
 -- an image of which the state keeps every bit
 pub record Whole (l : List ℕ) : Type 0 where
-  pub sized : length l ≡ IMAGE_LEN
+  pub sized : length l ≡ image_len
   pub bytes : Bytes l
   pub pins : byte_at l at.PINS < 8
   pub setup : byte_at l at.SETUP < 128

@@ -3,8 +3,8 @@ use Rattle.std.specs.Prelude.{ℕ, ◌+◌, ◌*◌, ◌/◌, ◌%◌, ◌<◌, 
 
 -- ---- Bytes
 
-abbrev pub IMAGE_LEN : ℕ
-IMAGE_LEN = 64
+abbrev pub image_len : ℕ
+image_len = 64
 
 abbrev pub REGISTERS : ℕ
 REGISTERS = 0

@@ -1,6 +1,7 @@
 // The image of 64 bytes: taken in and written out by value, the state that it holds, and the image of a state.
+#![tactic(auto)]
 ghost use Rattle.std.specs.Prelude.{◌≡◌, ◌+◌, ◌*◌, ◌<◌, length};
-ghost use Rattle.image.specs.Layout.{IMAGE_LEN, word_at};
+ghost use Rattle.image.specs.Layout.{image_len, word_at};
 ghost use Rattle.image.specs.Image.{registers_in, rtc_in, power_in, setup_in, keys_in, remote_in, core_in, display_in, decoded, pins_byte, state_bytes, laid_out, encoded};
 
 use controller::{Core, Keys, Power, Remote, Rtc, Setup};
@@ -262,7 +263,7 @@ pub fn encode(p: Panel) -> [u8; 64]
 
 // The image's bytes by value; the compiler copies 64 bytes faster than as many as there are.
 pub fn load(image: &[u8]) -> [u8; 64]
-    requires { length image.now ≡ IMAGE_LEN }
+    requires { length image.now ≡ image_len }
     ensures { result ≡ image.now }
 {
     let mut a = [0u8; 64];
@@ -272,7 +273,7 @@ pub fn load(image: &[u8]) -> [u8; 64]
 
 // The image's registers by value.
 pub fn load_registers(image: &[u8]) -> [u8; 16]
-    requires { length image.now ≡ IMAGE_LEN }
+    requires { length image.now ≡ image_len }
     ensures { result ≡ registers_in image.now }
 {
     let mut a = [0u8; 16];
@@ -282,7 +283,7 @@ pub fn load_registers(image: &[u8]) -> [u8; 16]
 
 // The bytes written to the image.
 pub fn save(image: &mut [u8], a: [u8; 64])
-    requires { length image.old ≡ IMAGE_LEN }
+    requires { length image.old ≡ image_len }
     ensures { image.new ≡ a }
 {
     let b = a;

@@ -1,4 +1,5 @@
 // How the worked examples write bytes: pairs of hexadecimal digits, which go one after the other from place 0 on, and a new place behind @.
+#![tactic(auto)]
 ghost use Rattle.std.specs.Prelude.{◌≡◌, ◌+◌, ◌*◌, ◌/◌, ◌%◌, ◌≤◌, min, length, get_or, set};
 ghost use Rattle.notation.specs.Reading.{digit_of, start, pair_read, digit_read, gap_read, read, stored, read_all, filled};
 ghost use Rattle.notation.specs.Line.{part, end_of, answer_end, number_of, same, is_written};
@@ -20,7 +21,7 @@ const NO_NUMBER: u64 = 4_294_967_296;
 
 // A text as far as it was read: the place where the next byte goes, the number that the last five bytes make, also if their digits are decimal,
 // the first digit of a pair that is not whole yet, whether that pair is a place, and whether all could be read.
-#[derive(Drop)]
+#[derive(Clone, Copy)]
 pub struct Reading {
     pub at: usize,
     pub number: u64,

@@ -1,4 +1,5 @@
 // The first panel kind, the STLED325: the shared state with a display of five digits, and the commands.
+#![tactic(auto)]
 ghost use Rattle.std.specs.Prelude.{◌≡◌, length, drop};
 ghost use Rattle.output.specs.Output.{answered};
 ghost use Rattle.panel.specs.PowerUp.{panel_powered_up};
@@ -15,14 +16,14 @@ use command::Command;
 use controller::Core;
 use display::Display;
 
-#[derive(Drop)]
+#[derive(Clone, Copy)]
 pub struct Panel {
     pub core: Core,
     pub display: Display,
 }
 
 // What a command leaves: the panel, and the number 0 or 9.
-#[derive(Drop)]
+#[derive(Clone, Copy)]
 pub struct Served {
     pub panel: Panel,
     pub refusal: u32,

@@ -16,7 +16,7 @@ use Rattle.alarm.specs.Match.{matches}
 use Rattle.units.specs.declared.Sixteenths.{Sixteenths}
 use Rattle.units.specs.Units.{one_more, fills_second}
 use Rattle.units.proofs.Laws.{unfilled}
-use Rattle.registers.specs.Names.{stopped, AFE, WDFEn}
+use Rattle.registers.specs.Names.{stopped, afe, wdfen}
 use Rattle.timekeeper.specs.Clock.{clock_of, with_clock, valid_calendar}
 use Rattle.timekeeper.specs.Alarm.{alarm_of}
 use Rattle.controller.specs.declared.Core.{Core}
@@ -59,7 +59,7 @@ module _ {w : ℕ} {c : Core} (h : Sound w c) where
   sound_second_passed : Sound w (second_passed c)
   unfolding second_passed
   sound_second_passed =
-      of_cond (Sound w) (AFE c.rtc.registers && matches (alarm_of c.rtc.registers) (next (clock_of c.rtc.registers))) _ _
+      of_cond (Sound w) (afe c.rtc.registers && matches (alarm_of c.rtc.registers) (next (clock_of c.rtc.registers))) _ _
       (λ e. sound_raised RTC (omega arith) (sound_rtc h _ (second (bit_or c.rtc.flags ALARM_FLAG) (or_lt 2 c.rtc.flags ALARM_FLAG h.rtc.flags (omega arith)))))
       (λ e. sound_rtc h _ (second c.rtc.flags h.rtc.flags))
     where
@@ -77,7 +77,7 @@ module _ {w : ℕ} {c : Core} (h : Sound w c) where
   unfolding watchdog_ticked
   sound_watchdog_ticked =
       of_cond (Sound w) (eqb c.rtc.watchdog.0 0 || stopped c.rtc.registers) _ _ (λ e. h)
-      (λ e. of_cond (Sound w) (eqb c.rtc.watchdog.0 1 && WDFEn c.rtc.registers) _ _
+      (λ e. of_cond (Sound w) (eqb c.rtc.watchdog.0 1 && wdfen c.rtc.registers) _ _
       (λ l. sound_raised RTC (omega arith) (sound_rtc h _ (fewer (bit_or c.rtc.flags WATCHDOG_FLAG) (or_lt 2 c.rtc.flags WATCHDOG_FLAG h.rtc.flags (omega arith)))))
       (λ l. sound_rtc h _ (fewer c.rtc.flags h.rtc.flags)))
     where

@@ -8,7 +8,7 @@ use Rattle.common.proofs.Choice.{of_cond, ap_cond}
 use Rattle.alarm.specs.Match.{matches}
 use Rattle.units.specs.declared.Sixteenths.{Sixteenths}
 use Rattle.units.specs.Units.{one_more, fills_second}
-use Rattle.registers.specs.Names.{stopped, AFE, WDFEn}
+use Rattle.registers.specs.Names.{stopped, afe, wdfen}
 use Rattle.timekeeper.specs.Clock.{with_clock}
 use Rattle.timekeeper.specs.Alarm.{alarm_of}
 use Rattle.timekeeper.proofs.Apart.{with_stopped, with_wdfen}
@@ -78,7 +78,7 @@ woken_by_woken_by s false b ready wakeup stby g = refl
 
 -- with AFE set the second reached matches
 abbrev matched : Core → Bool
-matched c = AFE c.rtc.registers && matches (alarm_of c.rtc.registers) (next_second c)
+matched c = afe c.rtc.registers && matches (alarm_of c.rtc.registers) (next_second c)
 
 module _ (c : Core) {A : Type 0} (f : Core → A)
     (within : (s : Sixteenths) → f (with_rtc c (rtc c.rtc.registers s c.rtc.flags c.rtc.watchdog)) ≡ f c) where
@@ -134,12 +134,12 @@ module _ (c : Core) where
       ap_cond (λ (x : Core). x.power) (eqb c.rtc.watchdog.0 0 || stopped c.rtc.registers) _ _
       ∙ ap (cond (eqb c.rtc.watchdog.0 0 || stopped c.rtc.registers) c.power)
       (ap_cond (λ (x : Core). x.power) ends _ _ ∙ ap (λ (p : Power). cond ends p c.power) (power_raised RTC _))
-      ∙ ending (eqb c.rtc.watchdog.0 0) (stopped c.rtc.registers) (eqb c.rtc.watchdog.0 1) (WDFEn c.rtc.registers) _ c.power
+      ∙ ending (eqb c.rtc.watchdog.0 0) (stopped c.rtc.registers) (eqb c.rtc.watchdog.0 1) (wdfen c.rtc.registers) _ c.power
       (one_not_none c.rtc.watchdog.0)
       ∙ both (watchdog_ends c) c.power.stby (woken c.setup c.power) c.power
     where
       ends : Bool
-      ends = eqb c.rtc.watchdog.0 1 && WDFEn c.rtc.registers
+      ends = eqb c.rtc.watchdog.0 1 && wdfen c.rtc.registers
 
   -- a view that shows neither the flags, nor the watchdog, nor an event, stays as it was
   watchdog_view : {A : Type 0} (f : Core → A) → ((flags : ℕ) (left : Sixteenths) → f (with_rtc c (rtc c.rtc.registers c.rtc.sixteenths flags left)) ≡ f c)
@@ -147,7 +147,7 @@ module _ (c : Core) where
   unfolding watchdog_ticked
   watchdog_view f fewer after =
       of_cond (λ (x : Core). f x ≡ f c) (eqb c.rtc.watchdog.0 0 || stopped c.rtc.registers) _ _ (λ e. refl)
-      (λ e. of_cond (λ (x : Core). f x ≡ f c) (eqb c.rtc.watchdog.0 1 && WDFEn c.rtc.registers) _ _ (λ l. after _ ∙ fewer _ _) (λ l. fewer _ _))
+      (λ e. of_cond (λ (x : Core). f x ≡ f c) (eqb c.rtc.watchdog.0 1 && wdfen c.rtc.registers) _ _ (λ l. after _ ∙ fewer _ _) (λ l. fewer _ _))
 
   setup_watchdog_ticked : (watchdog_ticked c).setup ≡ c.setup
   setup_watchdog_ticked = watchdog_view (λ (x : Core). x.setup) (λ flags left. refl) (setup_raised RTC)

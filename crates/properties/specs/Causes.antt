@@ -4,7 +4,7 @@ use Rattle.calendar.specs.declared.Clock.{Clock}
 use Rattle.calendar.specs.Carry.{next}
 use Rattle.alarm.specs.Match.{matches}
 use Rattle.units.specs.Units.{one_more, fills_second}
-use Rattle.registers.specs.Names.{stopped, AFE, WDFEn}
+use Rattle.registers.specs.Names.{stopped, afe, wdfen}
 use Rattle.timekeeper.specs.Clock.{clock_of}
 use Rattle.timekeeper.specs.Alarm.{alarm_of}
 use Rattle.controller.specs.declared.Core.{Core}
@@ -23,11 +23,11 @@ next_second c = next (clock_of c.rtc.registers)
 
 -- with AFE set the second reached matches
 unfoldable pub alarm_rises : Core → Bool
-alarm_rises c = second_passes c && (AFE c.rtc.registers && matches (alarm_of c.rtc.registers) (next_second c))
+alarm_rises c = second_passes c && (afe c.rtc.registers && matches (alarm_of c.rtc.registers) (next_second c))
 
--- the watchdog, one sixteenth from its end, falls while the oscillator runs, with WDFEn set
+-- the watchdog, one sixteenth from its end, falls while the oscillator runs, with wdfen set
 unfoldable pub watchdog_ends : Core → Bool
-watchdog_ends c = eqb c.rtc.watchdog.0 1 && (not (stopped c.rtc.registers) && WDFEn c.rtc.registers)
+watchdog_ends c = eqb c.rtc.watchdog.0 1 && (not (stopped c.rtc.registers) && wdfen c.rtc.registers)
 
 unfoldable pub rtc_event : Core → Bool
 rtc_event c = alarm_rises c || watchdog_ends c

@@ -63,25 +63,25 @@ abbrev pub stopped : List ℕ → Bool
 stopped rs = bit_set (at rs SECONDS) 128
 
 -- 03h b7: the face shows month and date
-abbrev pub MD_H : List ℕ → Bool
-MD_H rs = bit_set (at rs HOURS) 128
+abbrev pub md_h : List ℕ → Bool
+md_h rs = bit_set (at rs HOURS) 128
 
 -- 03h b6: with MD_H clear the face shows minutes and seconds
-abbrev pub M_MS : List ℕ → Bool
-M_MS rs = bit_set (at rs HOURS) 64
+abbrev pub m_ms : List ℕ → Bool
+m_ms rs = bit_set (at rs HOURS) 64
 
 -- 08h b7: hours show from 1 to 12
 abbrev pub twelve_hours : List ℕ → Bool
 twelve_hours rs = bit_set (at rs CALIBRATION) 128
 
 -- 0Ah b7: a match raises the alarm
-abbrev pub AFE : List ℕ → Bool
-AFE rs = bit_set (at rs ALARM_MONTH) 128
+abbrev pub afe : List ℕ → Bool
+afe rs = bit_set (at rs ALARM_MONTH) 128
 
 -- 0Ah b5: the alarm counts in backup
-abbrev pub ABE : List ℕ → Bool
-ABE rs = bit_set (at rs ALARM_MONTH) 32
+abbrev pub abe : List ℕ → Bool
+abe rs = bit_set (at rs ALARM_MONTH) 32
 
 -- 0Fh b7: the watchdog's end raises its flag
-abbrev pub WDFEn : List ℕ → Bool
-WDFEn rs = bit_set (at rs ALARM_WEEKDAY) 128
+abbrev pub wdfen : List ℕ → Bool
+wdfen rs = bit_set (at rs ALARM_WEEKDAY) 128

@@ -1,6 +1,7 @@
 // The sixteen clock registers 00h..0Fh, held as an array by value: single bits, reserved bits, writing, and what the watchdog loads.
+#![tactic(auto)]
 ghost use Rattle.std.specs.Prelude.{◌≡◌, ◌+◌, ◌≤◌, ◌<◌, length};
-ghost use Rattle.registers.specs.Names.{stopped, AFE, ABE, WDFEn};
+ghost use Rattle.registers.specs.Names.{stopped, afe, abe, wdfen};
 ghost use Rattle.registers.specs.Written.{kept, reserved_clear, stored, written};
 ghost use Rattle.registers.specs.Watchdog.{watchdog_load};
 
@@ -57,21 +58,21 @@ pub fn is_stopped(registers: [u8; 16]) -> bool
 
 // 0Ah b7: whether a match raises the alarm.
 pub fn has_afe(registers: [u8; 16]) -> bool
-    ensures { result ≡ AFE registers }
+    ensures { result ≡ afe registers }
 {
     common::bit(registers[ALARM_MONTH], AFE)
 }
 
 // 0Ah b5: whether the alarm counts in backup.
 pub fn has_abe(registers: [u8; 16]) -> bool
-    ensures { result ≡ ABE registers }
+    ensures { result ≡ abe registers }
 {
     common::bit(registers[ALARM_MONTH], ABE)
 }
 
 // 0Fh b7: whether the watchdog's end raises its flag.
 pub fn has_wdfen(registers: [u8; 16]) -> bool
-    ensures { result ≡ WDFEn registers }
+    ensures { result ≡ wdfen registers }
 {
     common::bit(registers[ALARM_WEEKDAY], WDFEN)
 }

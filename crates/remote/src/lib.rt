@@ -1,4 +1,5 @@
 // Remote frames, NEC and RC-5: a number of 32 bits is a key, or none.
+#![tactic(auto)]
 ghost use Rattle.std.specs.Prelude.{◌≡◌};
 ghost use Rattle.remote.specs.Frame.{is_protocol, addressed, nec_key, rc5_key, sent_by, key_of, refusal_of};
 
@@ -15,7 +16,7 @@ pub fn is_protocol(p: u8) -> bool
 }
 
 // What a frame says.
-#[derive(Drop)]
+#[derive(Clone, Copy)]
 pub enum Received {
     // Device address and command.
     Key(u8, u8),

@@ -10,11 +10,11 @@ use Rattle.common.specs.Bits.{bit_set}
 use Rattle.common.specs.Grounds.{first_ground}
 use Rattle.common.proofs.Choice.{on_true, on_false, of_cond, by_cases}
 use Rattle.calendar.specs.declared.Clock.{Clock}
-use Rattle.calendar.specs.Clock.{LIMIT, Valid, count, moved}
+use Rattle.calendar.specs.Clock.{limit, Valid, count, moved}
 use Rattle.calendar.proofs.Moved.{moved_valid, moved_none, moved_moved, count_moved, weekday_moved}
 use Rattle.alarm.specs.Match.{matches}
 use Rattle.alarm.specs.Reached.{any_reached}
-use Rattle.registers.specs.Names.{AFE, ABE}
+use Rattle.registers.specs.Names.{afe, abe}
 use Rattle.timekeeper.specs.Clock.{clock_of}
 use Rattle.timekeeper.specs.Alarm.{alarm_of}
 use Rattle.controller.specs.State.{ALARM_FLAG}
@@ -100,8 +100,8 @@ module _ (l ns : List ℕ) (v : is_valid l ≡ true) (small : Bytes l) where
   none_reached : total ns ≡ 0 → alarm_reached l (total ns) ≡ false
   unfolding any_reached
   none_reached z =
-      ap (λ (n : ℕ). not (stopped_in l) && (AFE (registers_in l) && ABE (registers_in l)) && any_reached (matches (alarm_of (registers_in l))) (clock_in l) n) z
-      ∙ and-false (not (stopped_in l) && (AFE (registers_in l) && ABE (registers_in l)))
+      ap (λ (n : ℕ). not (stopped_in l) && (afe (registers_in l) && abe (registers_in l)) && any_reached (matches (alarm_of (registers_in l))) (clock_in l) n) z
+      ∙ and-false (not (stopped_in l) && (afe (registers_in l) && abe (registers_in l)))
 
   flag_is : flag_in after ≡ (flag_in l || alarm_reached l (total ns))
   flag_is =
@@ -110,10 +110,10 @@ module _ (l ns : List ℕ) (v : is_valid l ≡ true) (small : Bytes l) where
       ∙ ap (λ (b : Bool). flag_in l || b) counts_as)
       (λ z. sym (ap (λ (b : Bool). flag_in l || b) (none_reached z) ∙ or-false (flag_in l)))
 
-  one : some_accepted ns ≡ true → total ns ≤ LIMIT → outcome 0 after [] ≡ supply_return_call l (total ns)
+  one : some_accepted ns ≡ true → total ns ≤ limit → outcome 0 after [] ≡ supply_return_call l (total ns)
   one t h =
       ap (λ (x : List ℕ). outcome 0 x []) (after_is l ns v small ∙ sym (on_true (image_returned l (total ns)) l t))
-      ∙ sym (call_done l (total ns) v (le-leb (total ns) LIMIT h))
+      ∙ sym (call_done l (total ns) v (le-leb (total ns) limit h))
 
 -- ---- DEMAND 3
 module _ (l ns : List ℕ) (small : Bytes l) where

@@ -9,7 +9,7 @@ use lib.ListN.{length}
 use borrow.Author.Tests.{leb-true, leb-false, lt-ltb, le-ltb}
 use Rattle.common.specs.Grounds.{ground, first_ground}
 use Rattle.common.proofs.Choice.{on_true, on_false, of_cond, by_cases}
-use Rattle.calendar.specs.Clock.{LIMIT}
+use Rattle.calendar.specs.Clock.{limit}
 use Rattle.image.specs.Image.{decoded, encoded}
 use Rattle.image.specs.Layout.{Bytes}
 use Rattle.image.specs.Sound.{SoundPanel}
@@ -28,15 +28,15 @@ use Rattle.series.specs.Series.{image_after_series, numbers, within, total, some
 -- ---- one return by its cases
 module _ (l : List ℕ) (n : ℕ) where
   call_bad : is_valid l ≡ false → supply_return_call l n ≡ outcome 1 l []
-  call_bad v = sym (not_valid (ground 10 (ltb LIMIT n) ∷ []) l [] (image_returned l n) [] (λ i. not (v i)))
+  call_bad v = sym (not_valid (ground 10 (ltb limit n) ∷ []) l [] (image_returned l n) [] (λ i. not (v i)))
 
   call_over : is_valid l ≡ true → within n ≡ false → supply_return_call l n ≡ outcome 10 l []
   call_over v h =
       sym (refused (supply_grounds l n) l [] (image_returned l n) [] 10 (λ (z : ◌≡◌ {A = ℕ} 10 0). omega arith)
-      (first_holds (ltb LIMIT n) 10 [] (lt-ltb LIMIT n (leb-false n LIMIT h)) ∙ first_passed (not (is_valid l)) 1 (ground 10 (ltb LIMIT n) ∷ []) (λ i. not (v i))))
+      (first_holds (ltb limit n) 10 [] (lt-ltb limit n (leb-false n limit h)) ∙ first_passed (not (is_valid l)) 1 (ground 10 (ltb limit n) ∷ []) (λ i. not (v i))))
 
   pub call_done : is_valid l ≡ true → within n ≡ true → supply_return_call l n ≡ outcome 0 (image_returned l n) []
-  call_done v h = sym (accepted (supply_grounds l n) l [] (image_returned l n) [] ((λ i. not (v i)), (le-ltb LIMIT n (leb-true n LIMIT h), tt)))
+  call_done v h = sym (accepted (supply_grounds l n) l [] (image_returned l n) [] ((λ i. not (v i)), (le-ltb limit n (leb-true n limit h), tt)))
 
   number_is : (supply_return_call l n).number ≡ first_ground (supply_grounds l n)
   number_is = decided_number (supply_grounds l n) l [] (image_returned l n) []
@@ -82,7 +82,7 @@ module _ (l : List ℕ) (v : is_valid l ≡ true) (small : Bytes l) (n : ℕ) wh
   returned_again m = ap encoded (ap (panel_returned m) holds ∙ panel_add (decoded l) n m)
 
   grounds_same : (m : ℕ) → first_ground (supply_grounds (image_returned l n) m) ≡ first_ground (supply_grounds l m)
-  grounds_same m = ap (λ (b : Bool). first_ground (ground 1 (not b) ∷ ground 10 (ltb LIMIT m) ∷ [])) (returned_valid ∙ sym v)
+  grounds_same m = ap (λ (b : Bool). first_ground (ground 1 (not b) ∷ ground 10 (ltb limit m) ∷ [])) (returned_valid ∙ sym v)
 
 -- ---- sums
 pub none_total : (ns : List ℕ) → some_accepted ns ≡ false → total ns ≡ 0

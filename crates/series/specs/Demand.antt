@@ -4,10 +4,10 @@ use Rattle.std.specs.Prelude.{ℕ, ◌+◌, ◌%◌, ◌≤◌, ◌≡◌, Bool,
 use Rattle.common.specs.Bits.{bit_set}
 use Rattle.common.specs.Grounds.{first_ground}
 use Rattle.calendar.specs.declared.Clock.{Clock}
-use Rattle.calendar.specs.Clock.{LIMIT, count, cycle, multiples, weekday_on}
+use Rattle.calendar.specs.Clock.{limit, count, cycle, multiples, weekday_on}
 use Rattle.alarm.specs.Match.{matches}
 use Rattle.alarm.specs.Reached.{any_reached}
-use Rattle.registers.specs.Names.{stopped, AFE, ABE}
+use Rattle.registers.specs.Names.{stopped, afe, abe}
 use Rattle.timekeeper.specs.Clock.{clock_of}
 use Rattle.timekeeper.specs.Alarm.{alarm_of}
 use Rattle.controller.specs.State.{ALARM_FLAG}
@@ -31,7 +31,7 @@ flag_in l = bit_set (byte_at l FLAGS) ALARM_FLAG
 -- the oscillator runs, both alarm bits are set, and one of the n seconds reached matches, each with its weekday then
 abbrev pub alarm_reached : List ℕ → ℕ → Bool
 alarm_reached l n =
-    not (stopped_in l) && (AFE (registers_in l) && ABE (registers_in l)) && any_reached (matches (alarm_of (registers_in l))) (clock_in l) n
+    not (stopped_in l) && (afe (registers_in l) && abe (registers_in l)) && any_reached (matches (alarm_of (registers_in l))) (clock_in l) n
 
 pub record Demand3 (l ns before after answers : List ℕ) : Type 0 where
   -- each return is made on the image that the one before it left, and its number is answered
@@ -64,4 +64,4 @@ pub record Demand3 (l ns before after answers : List ℕ) : Type 0 where
   -- at least one accepted: the whole image is that of the state moved on by the sum, also above the limit
   pub whole : is_valid l ≡ true → some_accepted ns ≡ true → after ≡ image_returned l (total ns)
   -- at least one accepted and the sum within the limit: byte for byte the image of a single return after the sum
-  pub single : is_valid l ≡ true → some_accepted ns ≡ true → total ns ≤ LIMIT → outcome 0 after [] ≡ supply_return_call l (total ns)
+  pub single : is_valid l ≡ true → some_accepted ns ≡ true → total ns ≤ limit → outcome 0 after [] ≡ supply_return_call l (total ns)

@@ -1,7 +1,7 @@
 -- A series of supply returns, each on the image that the one before it left, and the plain clock of document 01 run beside it.
 use Rattle.std.specs.Prelude.{ℕ, ◌+◌, Bool, false, cond, not, ◌&&◌, ◌||◌, List, [], ◌∷◌, eqb, leb}
 use Rattle.calendar.specs.declared.Clock.{Clock}
-use Rattle.calendar.specs.Clock.{LIMIT, moved}
+use Rattle.calendar.specs.Clock.{limit, moved}
 use Rattle.stled325.specs.Calls.{supply_return_call}
 
 -- the image after the series
@@ -22,7 +22,7 @@ noted (a ∷ rest) (n ∷ ns) = n ∷ noted rest ns
 
 -- n is within the limit
 abbrev pub within : ℕ → Bool
-within n = leb n LIMIT
+within n = leb n limit
 
 -- the sum of the accepted n, from a valid image
 unfoldable pub total : List ℕ → ℕ

@@ -1,4 +1,5 @@
 // Demand 3 as the promise of code: a series of supply returns, each the real call, with no other event between.
+#![tactic(auto)]
 ghost use Rattle.std.specs.Prelude.{◌≡◌, set};
 ghost use Rattle.series.specs.Demand.{Demand3};
 

@@ -19,7 +19,7 @@ use Rattle.panel.specs.PowerUp.{panel_powered_up}
 use Rattle.image.specs.Image.{decoded, encoded}
 use Rattle.validity.specs.Valid.{is_valid}
 use Rattle.validity.proofs.Laws.{valid_length, sound}
-use Rattle.calendar.specs.Clock.{LIMIT, Valid}
+use Rattle.calendar.specs.Clock.{limit, Valid}
 use Rattle.timekeeper.specs.Clock.{clock_of}
 use Rattle.properties.proofs.SoundParts.{valid_clock_of}
 use Rattle.events.specs.Show.{shown_in}
@@ -75,15 +75,15 @@ module _ (l : List ℕ) (v : Bool) (e : v ≡ is_valid l) where
 
   -- ---- supply return
   module _ (h : not v ≡ false) (n : ℕ) where
-    pub return_refused : LIMIT < n → outcome 10 l [] ≡ supply_return_call l n
+    pub return_refused : limit < n → outcome 10 l [] ≡ supply_return_call l n
     return_refused g =
         refused (supply_grounds l n) l [] (image_returned l n) [] 10 (λ (z : ◌≡◌ {A = ℕ} 10 0). omega arith)
-        (first_holds (ltb LIMIT n) 10 [] (lt-ltb LIMIT n g) ∙ first_passed (not (is_valid l)) 1 (ground 10 (ltb LIMIT n) ∷ []) (good h))
+        (first_holds (ltb limit n) 10 [] (lt-ltb limit n g) ∙ first_passed (not (is_valid l)) 1 (ground 10 (ltb limit n) ∷ []) (good h))
 
-    pub return_done : n ≤ LIMIT → (m : List ℕ) → m ≡ image_returned l n → outcome 0 m [] ≡ supply_return_call l n
-    return_done g m em = ap (λ (y : List ℕ). outcome 0 y []) em ∙ accepted (supply_grounds l n) l [] (image_returned l n) [] (good h, (le-ltb LIMIT n g, tt))
+    pub return_done : n ≤ limit → (m : List ℕ) → m ≡ image_returned l n → outcome 0 m [] ≡ supply_return_call l n
+    return_done g m em = ap (λ (y : List ℕ). outcome 0 y []) em ∙ accepted (supply_grounds l n) l [] (image_returned l n) [] (good h, (le-ltb limit n g, tt))
 
-    pub return_allowed : n ≤ LIMIT → ((i : ℕ) → get_or l i 0 < 256) → (length l ≡ 64) × (Valid (clock_of (decoded l).core.rtc.registers) × (n ≤ LIMIT))
+    pub return_allowed : n ≤ limit → ((i : ℕ) → get_or l i 0 < 256) → (length l ≡ 64) × (Valid (clock_of (decoded l).core.rtc.registers) × (n ≤ limit))
     return_allowed g small = (sized h, (valid_clock_of (sound l (sym e ∙ not-false v h) small).core.rtc, g))
 
   -- ---- show and lines

@@ -1,7 +1,7 @@
 -- The calls but the command (document 01, "Events", "Show", "Lines"), each from the image and the output that it is given.
 use Rattle.std.specs.Prelude.{ℕ, Bool, true, false, not, List, [], ◌∷◌, eqb, ltb, length}
 use Rattle.common.specs.Grounds.{Ground, ground}
-use Rattle.calendar.specs.Clock.{LIMIT}
+use Rattle.calendar.specs.Clock.{limit}
 use Rattle.remote.specs.declared.Received.{Received}
 use Rattle.remote.specs.declared.Received.TheVariants.{Key, NoKey}
 use Rattle.remote.specs.Frame.{key_of}
@@ -14,7 +14,7 @@ use Rattle.display.specs.Lines.{lines_of}
 use Rattle.panel.specs.State.{on_core}
 use Rattle.panel.specs.PowerUp.{panel_powered_up}
 use Rattle.supply.specs.Return.{panel_returned}
-use Rattle.image.specs.Layout.{IMAGE_LEN}
+use Rattle.image.specs.Layout.{image_len}
 use Rattle.image.specs.Image.{decoded, encoded}
 use Rattle.events.specs.Show.{shown_in}
 use Rattle.stled325.specs.Outcome.{Outcome, decided, invalid}
@@ -22,7 +22,7 @@ use Rattle.stled325.specs.Outcome.{Outcome, decided, invalid}
 -- ---- Power-up takes any 64 bytes
 
 abbrev pub power_up_grounds : List ℕ → List Ground
-power_up_grounds l = ground 1 (not (eqb (length l) IMAGE_LEN)) ∷ []
+power_up_grounds l = ground 1 (not (eqb (length l) image_len)) ∷ []
 
 abbrev pub power_up_call : List ℕ → Outcome
 power_up_call l = decided (power_up_grounds l) l [] (encoded panel_powered_up) []
@@ -79,7 +79,7 @@ frame_call l frame = decided (frame_grounds l frame) l [] (image_after (keyed_by
 
 -- ground 10: n above 31,622,400
 abbrev pub supply_grounds : List ℕ → ℕ → List Ground
-supply_grounds l n = invalid l ∷ ground 10 (ltb LIMIT n) ∷ []
+supply_grounds l n = invalid l ∷ ground 10 (ltb limit n) ∷ []
 
 abbrev pub image_returned : List ℕ → ℕ → List ℕ
 image_returned l n = encoded (panel_returned n (decoded l))

@@ -13,7 +13,7 @@ use Rattle.calendar.proofs.Moved.{moved_valid, moved_moved}
 use Rattle.alarm.specs.Match.{matches}
 use Rattle.alarm.specs.Reached.{any_reached}
 use Rattle.alarm.proofs.Reached.{any_add}
-use Rattle.registers.specs.Names.{stopped, AFE, ABE}
+use Rattle.registers.specs.Names.{stopped, afe, abe}
 use Rattle.timekeeper.specs.Clock.{clock_of, with_clock}
 use Rattle.timekeeper.specs.Alarm.{alarm_of}
 use Rattle.timekeeper.proofs.Clock.{clock_with}
@@ -45,10 +45,10 @@ module _ (rs : List ℕ) where
   unfolding registers_returned
   kept_alarm n = of_cond (λ (x : List ℕ). alarm_of x ≡ alarm_of rs) (stopped rs) _ _ (λ t. refl) (λ t. with_alarm rs (moved (clock_of rs) n))
 
-  kept_bits : (n : ℕ) → (AFE (registers_returned n rs) && ABE (registers_returned n rs)) ≡ (AFE rs && ABE rs)
+  kept_bits : (n : ℕ) → (afe (registers_returned n rs) && abe (registers_returned n rs)) ≡ (afe rs && abe rs)
   unfolding registers_returned
   kept_bits n =
-      of_cond (λ (x : List ℕ). (AFE x && ABE x) ≡ (AFE rs && ABE rs)) (stopped rs) _ _ (λ t. refl)
+      of_cond (λ (x : List ℕ). (afe x && abe x) ≡ (afe rs && abe rs)) (stopped rs) _ _ (λ t. refl)
       (λ t. (λ i. with_afe rs (moved (clock_of rs) n) i && with_abe rs (moved (clock_of rs) n) i))
 
   -- ---- where the clock stands
@@ -85,7 +85,7 @@ module _ (rs : List ℕ) (m n : ℕ) where
   matches_add = by_cases (match_counts (m + n) rs ≡ (match_counts m rs || match_counts n between)) (stopped rs) stands moves
     where
       armed : Bool
-      armed = AFE rs && ABE rs
+      armed = afe rs && abe rs
 
       any : ℕ → Bool
       any k = any_reached (matches (alarm_of rs)) (clock_of rs) k
@@ -98,8 +98,8 @@ module _ (rs : List ℕ) (m n : ℕ) where
 
       stands : stopped rs ≡ true → match_counts (m + n) rs ≡ (match_counts m rs || match_counts n between)
       stands t =
-          (λ i. not (t i) && armed && any (m + n)) ∙ shut armed (any (m + n)) armed (any m) (AFE between && ABE between) (any_reached (matches (alarm_of between)) (clock_of between) n)
-          ∙ (λ i. (not (sym t i) && armed && any m) || (not (sym (kept_stopped rs m ∙ t) i) && (AFE between && ABE between) && any_reached (matches (alarm_of between)) (clock_of between) n))
+          (λ i. not (t i) && armed && any (m + n)) ∙ shut armed (any (m + n)) armed (any m) (afe between && abe between) (any_reached (matches (alarm_of between)) (clock_of between) n)
+          ∙ (λ i. (not (sym t i) && armed && any m) || (not (sym (kept_stopped rs m ∙ t) i) && (afe between && abe between) && any_reached (matches (alarm_of between)) (clock_of between) n))
 
       moves : stopped rs ≡ false → match_counts (m + n) rs ≡ (match_counts m rs || match_counts n between)
       moves t =

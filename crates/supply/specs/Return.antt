@@ -5,7 +5,7 @@ use Rattle.common.specs.Bits.{bit_set}
 use Rattle.calendar.specs.Clock.{moved}
 use Rattle.alarm.specs.Match.{matches}
 use Rattle.alarm.specs.Reached.{any_reached}
-use Rattle.registers.specs.Names.{stopped, AFE, ABE}
+use Rattle.registers.specs.Names.{stopped, afe, abe}
 use Rattle.timekeeper.specs.Clock.{clock_of, with_clock}
 use Rattle.timekeeper.specs.Alarm.{alarm_of}
 use Rattle.controller.specs.declared.Core.{Core}
@@ -22,7 +22,7 @@ registers_returned n rs = cond (stopped rs) rs (with_clock rs (moved (clock_of r
 
 -- a match of a second reached counts with the oscillator running and both alarm bits set
 unfoldable pub match_counts : ℕ → List ℕ → Bool
-match_counts n rs = not (stopped rs) && (AFE rs && ABE rs) && any_reached (matches (alarm_of rs)) (clock_of rs) n
+match_counts n rs = not (stopped rs) && (afe rs && abe rs) && any_reached (matches (alarm_of rs)) (clock_of rs) n
 
 -- and raises the alarm flag
 unfoldable pub flags_returned : ℕ → List ℕ → ℕ → ℕ

@@ -1,6 +1,6 @@
 // Supply return of the first panel kind.
 ghost use Rattle.std.specs.Prelude.{◌≡◌, ◌≤◌};
-ghost use Rattle.calendar.specs.Clock.{LIMIT, Valid};
+ghost use Rattle.calendar.specs.Clock.{limit, Valid};
 ghost use Rattle.timekeeper.specs.Clock.{clock_of};
 ghost use Rattle.supply.specs.Return.{panel_returned};
 
@@ -11,7 +11,7 @@ use units::Seconds;
 // The panel after n seconds without supply: all that is its own is as at power-up.
 pub fn return_panel(p: Panel, n: Seconds) -> Panel
     requires valid { Valid (clock_of p.core.rtc.registers) }
-    requires n_bound { n.0 ≤ LIMIT }
+    requires n_bound { n.0 ≤ limit }
     ensures { result ≡ panel_returned n.0 p }
 {
     let old = p.core;

@@ -1,7 +1,8 @@
 // Supply return: the state at power-up, but for the clock, which moved on over the cut. Here is what both panel kinds share; a module for each
 // kind puts its panel around it.
+#![tactic(auto)]
 ghost use Rattle.std.specs.Prelude.{◌≡◌, ◌≤◌};
-ghost use Rattle.calendar.specs.Clock.{LIMIT, Valid};
+ghost use Rattle.calendar.specs.Clock.{limit, Valid};
 ghost use Rattle.timekeeper.specs.Clock.{clock_of};
 ghost use Rattle.supply.specs.Return.{registers_returned, match_counts, flags_returned, rtc_returned, interrupt_for, returned};
 
@@ -16,7 +17,7 @@ const B4: u8 = 16;
 // The registers after n seconds without supply.
 fn return_registers(registers: [u8; 16], n: Seconds) -> [u8; 16]
     requires valid { Valid (clock_of registers) }
-    requires n_bound { n.0 ≤ LIMIT }
+    requires n_bound { n.0 ≤ limit }
     ensures { result ≡ registers_returned n.0 registers }
 {
     if registers::is_stopped(registers) {
@@ -29,7 +30,7 @@ fn return_registers(registers: [u8; 16], n: Seconds) -> [u8; 16]
 // Whether a match of one of the n seconds reached counts: the oscillator runs and both alarm bits are set.
 fn match_counts(registers: [u8; 16], n: Seconds) -> bool
     requires valid { Valid (clock_of registers) }
-    requires n_bound { n.0 ≤ LIMIT }
+    requires n_bound { n.0 ≤ limit }
     ensures { result ≡ match_counts n.0 registers }
 {
     if registers::is_stopped(registers) {
@@ -45,7 +46,7 @@ fn match_counts(registers: [u8; 16], n: Seconds) -> bool
 // The flags after n seconds without supply.
 fn return_flags(registers: [u8; 16], flags: u8, n: Seconds) -> u8
     requires valid { Valid (clock_of registers) }
-    requires n_bound { n.0 ≤ LIMIT }
+    requires n_bound { n.0 ≤ limit }
     ensures { result ≡ flags_returned n.0 registers flags }
 {
     if match_counts(registers, n) {
@@ -57,7 +58,7 @@ fn return_flags(registers: [u8; 16], flags: u8, n: Seconds) -> u8
 // The clock's part of the state; the watchdog stops.
 fn return_rtc(r: Rtc, n: Seconds) -> Rtc
     requires valid { Valid (clock_of r.registers) }
-    requires n_bound { n.0 ≤ LIMIT }
+    requires n_bound { n.0 ≤ limit }
     ensures { result ≡ rtc_returned n.0 r }
 {
     let registers = r.registers;
@@ -87,7 +88,7 @@ fn interrupt_for(flags: u8) -> u8
 // The state that both panel kinds share after n seconds without supply: power-up's, but for the clock and b4.
 pub fn return_core(c: Core, n: Seconds) -> Core
     requires valid { Valid (clock_of c.rtc.registers) }
-    requires n_bound { n.0 ≤ LIMIT }
+    requires n_bound { n.0 ≤ limit }
     ensures { result ≡ returned n.0 c }
 {
     let kept = c.rtc;

@@ -17,7 +17,7 @@ use Rattle.common.proofs.Order.{lt_or_le}
 use Rattle.calendar.specs.declared.Clock.{Clock}
 use Rattle.calendar.specs.Clock.{full_year, Valid}
 use Rattle.calendar.proofs.Date.{date_31}
-use Rattle.registers.specs.Names.{at, SECONDS, HOURS, YEAR, WATCHDOG, stopped, MD_H, M_MS, twelve_hours, AFE, ABE, WDFEn}
+use Rattle.registers.specs.Names.{at, SECONDS, HOURS, YEAR, WATCHDOG, stopped, md_h, m_ms, twelve_hours, afe, abe, wdfen}
 use Rattle.registers.specs.Written.{reserved_tests, reserved_clear}
 use Rattle.timekeeper.specs.Bcd.{bcd}
 use Rattle.timekeeper.specs.Clock.{under_b7, under_b7_b6, with_clock}
@@ -68,11 +68,11 @@ module _ (rs : List ℕ) (c : Clock) where
   unfolding with_clock
   with_stopped = ap (λ (x : ℕ). eqb (x % 2) 1) (b7_stays (at rs SECONDS) (bcd c.second))
 
-  pub with_md_h : MD_H (with_clock rs c) ≡ MD_H rs
+  pub with_md_h : md_h (with_clock rs c) ≡ md_h rs
   unfolding with_clock
   with_md_h = ap (λ (x : ℕ). eqb (x % 2) 1) (b7_of_both_stays (at rs HOURS) (bcd c.hour))
 
-  pub with_m_ms : M_MS (with_clock rs c) ≡ M_MS rs
+  pub with_m_ms : m_ms (with_clock rs c) ≡ m_ms rs
   unfolding with_clock
   with_m_ms = ap (λ (x : ℕ). eqb (x % 2) 1) (b7_b6_stay (at rs HOURS) (bcd c.hour))
 
@@ -80,15 +80,15 @@ module _ (rs : List ℕ) (c : Clock) where
   unfolding with_clock
   with_twelve = refl
 
-  pub with_afe : AFE (with_clock rs c) ≡ AFE rs
+  pub with_afe : afe (with_clock rs c) ≡ afe rs
   unfolding with_clock
   with_afe = refl
 
-  pub with_abe : ABE (with_clock rs c) ≡ ABE rs
+  pub with_abe : abe (with_clock rs c) ≡ abe rs
   unfolding with_clock
   with_abe = refl
 
-  pub with_wdfen : WDFEn (with_clock rs c) ≡ WDFEn rs
+  pub with_wdfen : wdfen (with_clock rs c) ≡ wdfen rs
   unfolding with_clock
   with_wdfen = refl
 

@@ -17,7 +17,7 @@ use Rattle.registers.specs.Names.{at, SECONDS, MINUTES, HOURS, WEEKDAY, DATE, MO
 use Rattle.registers.specs.Written.{written}
 use Rattle.timekeeper.specs.Bcd.{digits, bcd, decimal_tests, decimal}
 use Rattle.timekeeper.specs.Clock.{field_bytes, clock_of, calendar_tests, last_date, valid_calendar, under_b7, under_b7_b6, with_clock}
-use Rattle.timekeeper.specs.Alarm.{field_of, alarm_of, RPT1, RPT2, RPT3, RPT4, RPT5, RPT6}
+use Rattle.timekeeper.specs.Alarm.{field_of, alarm_of, rpt1, rpt2, rpt3, rpt4, rpt5, rpt6}
 use Rattle.timekeeper.specs.Commit.{accepted, refused, committed}
 
 pub clock_from : (rs : List ℕ) (century year month date weekday hour minute second : ℕ) → century ≡ at rs MONTH / 64 → year ≡ digits (at rs YEAR) → month ≡ digits (at rs MONTH % 64)
@@ -88,9 +88,9 @@ field_decimal rpt b x ex e = λ i. record { any = rpt; value = (ex ∙ on_true (
 pub field_other : (rpt : Bool) (b : ℕ) → decimal b ≡ false → record { any = rpt; value = 255 } ≡ field_of rpt b
 field_other rpt b e = λ i. record { any = rpt; value = on_false (digits b) 255 e i }
 
-pub alarm_from : (rs : List ℕ) (second minute hour date month weekday : Field) → second ≡ field_of (RPT1 rs) (at rs ALARM_SECOND % 128) → minute ≡ field_of (RPT2 rs) (at rs ALARM_MINUTE % 128)
-    → hour ≡ field_of (RPT3 rs) (at rs ALARM_HOUR % 64) → date ≡ field_of (RPT4 rs) (at rs ALARM_DATE % 64) → month ≡ field_of (RPT5 rs) (at rs ALARM_MONTH % 32)
-    → weekday ≡ field_of (RPT6 rs) (at rs ALARM_WEEKDAY / 16 % 8)
+pub alarm_from : (rs : List ℕ) (second minute hour date month weekday : Field) → second ≡ field_of (rpt1 rs) (at rs ALARM_SECOND % 128) → minute ≡ field_of (rpt2 rs) (at rs ALARM_MINUTE % 128)
+    → hour ≡ field_of (rpt3 rs) (at rs ALARM_HOUR % 64) → date ≡ field_of (rpt4 rs) (at rs ALARM_DATE % 64) → month ≡ field_of (rpt5 rs) (at rs ALARM_MONTH % 32)
+    → weekday ≡ field_of (rpt6 rs) (at rs ALARM_WEEKDAY / 16 % 8)
     → record { second = second; minute = minute; hour = hour; date = date; month = month; weekday = weekday } ≡ alarm_of rs
 unfolding alarm_of
 alarm_from rs s n h d m w es en eh ed em ew = λ i. record { second = es i; minute = en i; hour = eh i; date = ed i; month = em i; weekday = ew i }

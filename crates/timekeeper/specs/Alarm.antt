@@ -10,32 +10,32 @@ use Rattle.timekeeper.specs.Bcd.{decimal, digits}
 abbrev pub field_of : Bool → ℕ → Field
 field_of rpt b = record { any = rpt; value = cond (decimal b) (digits b) 255 }
 
-abbrev pub RPT1 : List ℕ → Bool
-RPT1 rs = bit_set (at rs ALARM_SECOND) 128
+abbrev pub rpt1 : List ℕ → Bool
+rpt1 rs = bit_set (at rs ALARM_SECOND) 128
 
-abbrev pub RPT2 : List ℕ → Bool
-RPT2 rs = bit_set (at rs ALARM_MINUTE) 128
+abbrev pub rpt2 : List ℕ → Bool
+rpt2 rs = bit_set (at rs ALARM_MINUTE) 128
 
-abbrev pub RPT3 : List ℕ → Bool
-RPT3 rs = bit_set (at rs ALARM_HOUR) 128
+abbrev pub rpt3 : List ℕ → Bool
+rpt3 rs = bit_set (at rs ALARM_HOUR) 128
 
-abbrev pub RPT4 : List ℕ → Bool
-RPT4 rs = bit_set (at rs ALARM_DATE) 128
+abbrev pub rpt4 : List ℕ → Bool
+rpt4 rs = bit_set (at rs ALARM_DATE) 128
 
-abbrev pub RPT5 : List ℕ → Bool
-RPT5 rs = bit_set (at rs ALARM_DATE) 64
+abbrev pub rpt5 : List ℕ → Bool
+rpt5 rs = bit_set (at rs ALARM_DATE) 64
 
-abbrev pub RPT6 : List ℕ → Bool
-RPT6 rs = bit_set (at rs ALARM_HOUR) 64
+abbrev pub rpt6 : List ℕ → Bool
+rpt6 rs = bit_set (at rs ALARM_HOUR) 64
 
 -- the alarm that the registers hold
 unfoldable pub alarm_of : List ℕ → Alarm
 alarm_of rs =
     record {
-      second = field_of (RPT1 rs) (at rs ALARM_SECOND % 128);
-      minute = field_of (RPT2 rs) (at rs ALARM_MINUTE % 128);
-      hour = field_of (RPT3 rs) (at rs ALARM_HOUR % 64);
-      date = field_of (RPT4 rs) (at rs ALARM_DATE % 64);
-      month = field_of (RPT5 rs) (at rs ALARM_MONTH % 32);
-      weekday = field_of (RPT6 rs) (at rs ALARM_WEEKDAY / 16 % 8);
+      second = field_of (rpt1 rs) (at rs ALARM_SECOND % 128);
+      minute = field_of (rpt2 rs) (at rs ALARM_MINUTE % 128);
+      hour = field_of (rpt3 rs) (at rs ALARM_HOUR % 64);
+      date = field_of (rpt4 rs) (at rs ALARM_DATE % 64);
+      month = field_of (rpt5 rs) (at rs ALARM_MONTH % 32);
+      weekday = field_of (rpt6 rs) (at rs ALARM_WEEKDAY / 16 % 8);
     }

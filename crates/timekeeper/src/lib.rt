@@ -1,4 +1,5 @@
 // What the clock registers say: the calendar, the alarm, whether they are valid, and what a write to them leaves.
+#![tactic(auto)]
 ghost use Rattle.std.specs.Prelude.{◌≡◌, ◌/◌};
 ghost use Rattle.common.specs.Tests.{conj};
 ghost use Rattle.timekeeper.specs.Bcd.{digits, bcd, decimal_tests};
@@ -27,7 +28,7 @@ const RPT5: u8 = 64;
 const RPT6: u8 = 64;
 
 // What a write to the registers leaves, and its refusal number.
-#[derive(Drop)]
+#[derive(Clone, Copy)]
 pub struct Committed {
     pub registers: [u8; 16],
     pub refusal: u32,

@@ -1,4 +1,5 @@
 // The two units of time and the only conversions between them: the guard value and a supply cut are seconds, the timers run in sixteenths.
+#![tactic(auto)]
 ghost use Rattle.std.specs.Prelude.{◌≡◌};
 ghost use Rattle.units.specs.Units.{sixteenths_of, one_more, fills_second};
 
@@ -6,11 +7,11 @@ ghost use Rattle.units.specs.Units.{sixteenths_of, one_more, fills_second};
 const PER_SECOND: u64 = 16;
 
 // A count of seconds.
-#[derive(Drop)]
+#[derive(Clone, Copy)]
 pub struct Seconds(pub u32);
 
 // A count of sixteenths of a second; wide enough for any count of seconds.
-#[derive(Drop)]
+#[derive(Clone, Copy)]
 pub struct Sixteenths(pub u64);
 
 // The same time in sixteenths.

@@ -15,7 +15,7 @@ use Rattle.timekeeper.specs.Clock.{valid_calendar}
 use Rattle.controller.specs.Sound.{Sound, SoundRtc, SoundSetup, SoundPower, SoundKeys, SoundRemote}
 use Rattle.panel.specs.declared.Panel.{Panel}
 use Rattle.image.specs.Layout as at
-use Rattle.image.specs.Layout.{IMAGE_LEN, UNUSED, byte_at, Bytes, word_at}
+use Rattle.image.specs.Layout.{image_len, UNUSED, byte_at, Bytes, word_at}
 use Rattle.image.specs.Image.{rtc_in, power_in, setup_in, keys_in, remote_in, core_in, display_in, decoded, setup_byte, encoded}
 use Rattle.image.specs.Sound.{SoundDisplay, SoundPanel}
 use Rattle.image.proofs.Numbers.{pins_small}
@@ -48,8 +48,8 @@ module _ (l : List ℕ) (h : is_valid l ≡ true) where
   range : (i : ℕ) → get_or (range_tests (decoded l)) i true ≡ true
   range = each (range_tests (decoded l)) (state 1)
 
-  pub valid_length : length l ≡ IMAGE_LEN
-  valid_length = eqb-true (length l) IMAGE_LEN (test 0)
+  pub valid_length : length l ≡ image_len
+  valid_length = eqb-true (length l) image_len (test 0)
 
   module _ (small : Bytes l) where
     rtc_sound : SoundRtc (rtc_in l)

@@ -16,7 +16,7 @@ use Rattle.controller.specs.declared.Core.{Core}
 use Rattle.controller.specs.Standby.{guard_load}
 use Rattle.remote.specs.Frame.{is_protocol}
 use Rattle.panel.specs.declared.Panel.{Panel}
-use Rattle.image.specs.Layout.{IMAGE_LEN}
+use Rattle.image.specs.Layout.{image_len}
 use Rattle.image.specs.Image.{registers_in, decoded}
 use Rattle.validity.specs.Valid.{unnamed_tests, tail_tests, range_tests, guard_within, guard_stopped, watchdog_within, address_zero, command_zero, state_tests, is_valid}
 
@@ -39,21 +39,21 @@ module _ (l : List ℕ) where
   judged : Bool → Bool → Bool
   judged sized calendar = conj (sized ∷ calendar ∷ conj (unnamed_tests l) ∷ conj (tail_tests l) ∷ conj (state_tests (decoded l)) ∷ [])
 
-  pub not_sized : (length l ≡ IMAGE_LEN → ⊥) → false ≡ is_valid l
+  pub not_sized : (length l ≡ image_len → ⊥) → false ≡ is_valid l
   unfolding is_valid judged
-  not_sized n = sym (ap (λ (b : Bool). judged b (valid_calendar (registers_in l))) (ne_eqb (length l) IMAGE_LEN n))
+  not_sized n = sym (ap (λ (b : Bool). judged b (valid_calendar (registers_in l))) (ne_eqb (length l) image_len n))
 
-  module _ (rs : List ℕ) (v : Bool) (sized : length l ≡ IMAGE_LEN) (er : rs ≡ registers_in l) (ev : v ≡ valid_calendar rs) where
+  module _ (rs : List ℕ) (v : Bool) (sized : length l ≡ image_len) (er : rs ≡ registers_in l) (ev : v ≡ valid_calendar rs) where
     calendar_is : v ≡ valid_calendar (registers_in l)
     calendar_is = ev ∙ ap valid_calendar er
 
     pub no_calendar : not v ≡ true → false ≡ is_valid l
     unfolding is_valid judged
-    no_calendar h = λ i. judged (sym (eq-eqb (length l) IMAGE_LEN sized) i) ((sym (not-true v h) ∙ calendar_is) i)
+    no_calendar h = λ i. judged (sym (eq-eqb (length l) image_len sized) i) ((sym (not-true v h) ∙ calendar_is) i)
 
     pub whole : not v ≡ false → (a : List ℕ) → a ≡ l → (u z : Bool) → u ≡ conj (unnamed_tests a) → z ≡ conj (tail_tests a) → (p : Panel) → p ≡ decoded a → (s : Bool) → s ≡ conj (state_tests p)
         → (u && z && s) ≡ is_valid l
     unfolding is_valid judged
     whole h a ea u z eu ez p ep s es =
         (λ i. (eu ∙ ap (λ (m : List ℕ). conj (unnamed_tests m)) ea) i && (ez ∙ ap (λ (m : List ℕ). conj (tail_tests m)) ea) i && (es ∙ ap (λ (q : Panel). conj (state_tests q)) (ep ∙ ap decoded ea)) i)
-        ∙ (λ i. judged (sym (eq-eqb (length l) IMAGE_LEN sized) i) ((sym (not-false v h) ∙ calendar_is) i))
+        ∙ (λ i. judged (sym (eq-eqb (length l) image_len sized) i) ((sym (not-false v h) ∙ calendar_is) i))

@@ -10,7 +10,7 @@ use Rattle.controller.specs.declared.Core.{Core}
 use Rattle.controller.specs.Standby.{guard_load}
 use Rattle.remote.specs.Frame.{is_protocol}
 use Rattle.panel.specs.declared.Panel.{Panel}
-use Rattle.image.specs.Layout.{IMAGE_LEN, FLAGS, PINS, CONFIGURATION, SETUP, DISPLAY_CONTROL, UNUSED, byte_at}
+use Rattle.image.specs.Layout.{image_len, FLAGS, PINS, CONFIGURATION, SETUP, DISPLAY_CONTROL, UNUSED, byte_at}
 use Rattle.image.specs.Image.{registers_in, decoded}
 
 -- ---- Bits and bytes without a name
@@ -75,7 +75,7 @@ state_tests p =
     ∷ []
 
 abbrev pub valid_tests : List ℕ → List Bool
-valid_tests l = eqb (length l) IMAGE_LEN ∷ valid_calendar (registers_in l) ∷ conj (unnamed_tests l) ∷ conj (tail_tests l) ∷ conj (state_tests (decoded l)) ∷ []
+valid_tests l = eqb (length l) image_len ∷ valid_calendar (registers_in l) ∷ conj (unnamed_tests l) ∷ conj (tail_tests l) ∷ conj (state_tests (decoded l)) ∷ []
 
 unfoldable pub is_valid : List ℕ → Bool
 is_valid l = conj (valid_tests l)

@@ -2,6 +2,7 @@
 // number, its name and ok, or FAILED with the lines that did not go as written and what was got.
 //
 // The image has 64 bytes, one too many, and how many of them are lent to a call.
+#![tactic(auto)]
 use bytes::scan::find;
 use common::byte_or;
 use libc::{STDIN_FILENO, STDOUT_FILENO};

@@ -10,7 +10,7 @@ use Rattle.calendar.specs.Clock.{Valid}
 use Rattle.alarm.specs.declared.Alarm.{Alarm}
 use Rattle.alarm.specs.Match.{matches}
 use Rattle.alarm.specs.Reached.{any_reached}
-use Rattle.registers.specs.Names.{stopped, AFE, ABE}
+use Rattle.registers.specs.Names.{stopped, afe, abe}
 use Rattle.timekeeper.specs.Clock.{clock_of}
 use Rattle.timekeeper.specs.Alarm.{alarm_of}
 use Rattle.supply.specs.Return.{match_counts}
@@ -23,10 +23,10 @@ module _ (rs : List ℕ) (n : ℕ) (s : Bool) (es : s ≡ stopped rs) where
 
   stands : s ≡ true → false ≡ match_counts n rs
   unfolding match_counts
-  stands t = λ i. not ((sym t ∙ es) i) && (AFE rs && ABE rs) && any
+  stands t = λ i. not ((sym t ∙ es) i) && (afe rs && abe rs) && any
 
-  module _ (t : s ≡ false) (f b : Bool) (ef : f ≡ AFE rs) (eb : b ≡ ABE rs) where
-    both : (AFE rs && ABE rs) ≡ (f && b)
+  module _ (t : s ≡ false) (f b : Bool) (ef : f ≡ afe rs) (eb : b ≡ abe rs) where
+    both : (afe rs && abe rs) ≡ (f && b)
     both = λ i. sym ef i && sym eb i
 
     unarmed : not (f && b) ≡ true → false ≡ match_counts n rs

@@ -10,7 +10,7 @@ use Rattle.calendar.specs.declared.Clock.{Clock}
 use Rattle.calendar.specs.Carry.{next}
 use Rattle.alarm.specs.declared.Alarm.{Alarm}
 use Rattle.alarm.specs.Match.{matches}
-use Rattle.registers.specs.Names.{AFE}
+use Rattle.registers.specs.Names.{afe}
 use Rattle.timekeeper.specs.Clock.{clock_of, with_clock}
 use Rattle.timekeeper.specs.Alarm.{alarm_of}
 use Rattle.controller.specs.declared.Core.{Core}
@@ -22,12 +22,12 @@ use Rattle.controller.proofs.Core.pass_second.Tie as tie
 
 -- the clock k before and the clock n after the second, the registers m with it, what AFE says, the alarm and its match
 module _ (c : Core) (k : Clock) (ek : k ≡ clock_of c.rtc.registers) (n : Clock) (en : n ≡ next k) (m : List ℕ) (em : m ≡ with_clock c.rtc.registers n)
-    (f : Bool) (ef : f ≡ AFE c.rtc.registers) (a : Alarm) (ea : a ≡ alarm_of c.rtc.registers) (h : Bool) (eh : h ≡ matches a n) where
+    (f : Bool) (ef : f ≡ afe c.rtc.registers) (a : Alarm) (ea : a ≡ alarm_of c.rtc.registers) (h : Bool) (eh : h ≡ matches a n) where
   passed : passed_to c n ≡ second_passed c
   unfolding second_passed
   passed = ap (passed_to c) (en ∙ ap next ek)
 
-  test : (AFE c.rtc.registers && matches (alarm_of c.rtc.registers) n) ≡ (f && h)
+  test : (afe c.rtc.registers && matches (alarm_of c.rtc.registers) n) ≡ (f && h)
   test = λ i. sym ef i && sym (eh ∙ ap (λ (x : Alarm). matches x n) ea) i
 
   matched : (f && h) ≡ true → (r : Core) → r ≡ raised RTC (with_rtc c (rtc m (sixteenths 0) (bit_or c.rtc.flags ALARM_FLAG) c.rtc.watchdog)) → r ≡ second_passed c

@@ -7,7 +7,7 @@ use lib.Dec.{eqb}
 use borrow.Author.Rules.{rules}
 use borrow.Author.Tests.{eq-eqb, ne_eqb}
 use Rattle.common.proofs.Choice.{on_true, on_false}
-use Rattle.registers.specs.Names.{stopped, WDFEn}
+use Rattle.registers.specs.Names.{stopped, wdfen}
 use Rattle.controller.specs.declared.Core.{Core}
 use Rattle.controller.specs.State.{with_rtc, rtc, sixteenths, RTC, WATCHDOG_FLAG}
 use Rattle.controller.specs.Standby.{raised}
@@ -25,7 +25,7 @@ module _ (c : Core) where
     unfolding watchdog_ticked
     stands t = on_true _ _ (ap (λ (b : Bool). eqb c.rtc.watchdog.0 0 || b) (sym es ∙ t) ∙ or-true (eqb c.rtc.watchdog.0 0))
 
-    module _ (n : s ≡ false) (w : Bool) (ew : w ≡ WDFEn c.rtc.registers) where
+    module _ (n : s ≡ false) (w : Bool) (ew : w ≡ wdfen c.rtc.registers) where
       runs : (eqb c.rtc.watchdog.0 0 || stopped c.rtc.registers) ≡ false
       runs = λ i. ne_eqb c.rtc.watchdog.0 0 h i || (sym es ∙ n) i
 
