@@ -131,7 +131,7 @@ pub fn show(image: &[u8], digits: &mut [u8])
     ensures { digits.new ≡ shown_in (decoded image.now) }
 {
     let shown = shown_by(panel_in(image));
-    bytes::copy(&shown, digits);
+    digits.copy_from_slice(&shown);
 }
 
 // The five bytes of show.

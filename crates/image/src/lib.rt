@@ -86,7 +86,7 @@ fn decode_registers(image: [u8; 64]) -> [u8; 16]
     ensures { result ≡ registers_in image }
 {
     let mut registers = [0u8; 16];
-    bytes::copy(&image[..16], &mut registers);
+    registers.copy_from_slice(&image[..16]);
     registers
 }
 
@@ -245,8 +245,8 @@ fn lay_out(registers: [u8; 16], fields: [u8; 28]) -> [u8; 64]
     ensures { result ≡ laid_out registers fields }
 {
     let mut image = [0u8; 64];
-    bytes::copy(&registers, &mut image);
-    bytes::copy(&fields, &mut image[SIXTEENTHS..]);
+    image[..SIXTEENTHS].copy_from_slice(&registers);
+    image[SIXTEENTHS..UNUSED].copy_from_slice(&fields);
     image
 }
 
@@ -267,7 +267,7 @@ pub fn load(image: &[u8]) -> [u8; 64]
     ensures { result ≡ image.now }
 {
     let mut a = [0u8; 64];
-    bytes::copy(&image[0..64], &mut a);
+    a.copy_from_slice(&image[0..64]);
     a
 }
 
@@ -277,7 +277,7 @@ pub fn load_registers(image: &[u8]) -> [u8; 16]
     ensures { result ≡ registers_in image.now }
 {
     let mut a = [0u8; 16];
-    bytes::copy(&image[0..16], &mut a);
+    a.copy_from_slice(&image[0..16]);
     a
 }
 
@@ -286,6 +286,5 @@ pub fn save(image: &mut [u8], a: [u8; 64])
     requires { length image.old ≡ image_len }
     ensures { image.new ≡ a }
 {
-    let b = a;
-    bytes::copy(&b, image);
+    image.copy_from_slice(&a);
 }
