@@ -7,7 +7,6 @@ use native.Mathlib.Omega.{arith}
 use native.Mathlib.Numerals.{add-one}
 use lib.ListN.{length, get_or, take, set, length-set}
 use lib.Seq.{take-suc, take_all, length-take-le}
-use borrow.Author.Rules.{rules}
 use Rattle.image.specs.Layout.{Bytes}
 use Rattle.stled325.specs.Outcome.{Outcome, outcome}
 use Rattle.stled325.specs.Calls.{supply_return_call}
@@ -15,8 +14,8 @@ use Rattle.series.specs.Series.{image_after_series, numbers, noted}
 use Rattle.series.specs.Demand.{Demand3}
 use Rattle.series.proofs.Series.{length_call}
 use Rattle.series.proofs.Demand.{series}
-use Rattle.series.proofs.supply_series.Statement.{statement}
-use Rattle.series.proofs.supply_series.Tie as tie
+use Rattle.series.proofs.supply_series.Invariants.{Gone}
+use Rattle.series.proofs.supply_series.Goals as goal
 
 -- one return more at the end of a series
 image_more : (l xs : List ℕ) (n : ℕ) → image_after_series l (xs ++ (n ∷ [])) ≡ (supply_return_call (image_after_series l xs) n).image
@@ -44,14 +43,6 @@ unfolding noted
 noted_more [] xs r = refl
 noted_more (a ∷ ys) [] r = ap (λ (l : List ℕ). r ∷ l) (sym (noted_none ys))
 noted_more (a ∷ ys) (x ∷ xs) r = ap (λ (l : List ℕ). x ∷ l) (noted_more ys xs r)
-
--- the first i returns are made
-record Gone (l ns a image answers : List ℕ) (i : ℕ) : Type 0 where
-  most : i ≤ length ns
-  sized : length image ≡ length l
-  places : length answers ≡ length a
-  image_is : image ≡ image_after_series l (take i ns)
-  answers_are : answers ≡ noted a (numbers l (take i ns))
 
 begin : (l ns a : List ℕ) → Gone l ns a l a 0
 unfolding image_after_series numbers
@@ -85,62 +76,13 @@ finish l ns a image answers i small h g =
     subst (λ (x : List ℕ). Demand3 l ns a x answers) (sym (g.image_is ∙ ap (image_after_series l) (take_all i ns h)))
     (subst (λ (y : List ℕ). Demand3 l ns a (image_after_series l ns) y) (sym (g.answers_are ∙ ap (λ (x : List ℕ). noted a (numbers l x)) (take_all i ns h))) (series l ns small a))
 
-abbrev invariant-loop : tie.invariant-loop
-invariant-loop image₀ ns answers₀ i₀ image answers i = Gone image₀ ns answers₀ image answers i
+pub loop-i-init : goal.loop-i-init
+loop-i-init c = begin _ _ _
 
-abbrev decreases-loop : tie.decreases-loop
-decreases-loop image₀ ns answers₀ i₀ image answers i = length ns - i
+pub loop-i-preserved : goal.loop-i-preserved
+loop-i-preserved c =
+    turn _ _ _ _ _ _ _ _ _ c.loop-i-test.true c.loop-i.invariant c.stled325_supply_return-number.ensures c.note.ensures
 
-loop-holds : tie.Need-loop-init invariant-loop decreases-loop
-loop-holds c = begin _ _ _
-
-mul-n : tie.Need-overflow-mul-n invariant-loop decreases-loop
-mul-n c = search rules
-
-shared-slice-read-n : tie.Need-shared-slice-read-n invariant-loop decreases-loop
-shared-slice-read-n c = search rules
-
-stled325-supply-return-requires : tie.Need-stled325-supply-return-requires invariant-loop decreases-loop
-stled325-supply-return-requires c κs = search rules
-
-note-requires : tie.Need-note-requires invariant-loop decreases-loop
-note-requires c κs = search rules
-
-add-i : tie.Need-overflow-add-i invariant-loop decreases-loop
-add-i c = search rules
-
-loop-less : tie.Need-loop-smaller invariant-loop decreases-loop
-loop-less c = search rules
-
-loop-again : tie.Need-loop-preserved invariant-loop decreases-loop
-loop-again c =
-    let t = c.before.before.before.before.before.before in
-    turn _ _ _ _ _ _ _ _ _ t.before.before.before.loop-test.true t.before.before.before.before.loop.invariant t.stled325-supply-return.ensures c.before.before.note.ensures
-
-same_length : tie.Need-same-length invariant-loop decreases-loop
-same_length c = search rules
-
-same-length-2 : tie.Need-same-length-2 invariant-loop decreases-loop
-same-length-2 c = search rules
-
-returns : tie.Need-returns invariant-loop decreases-loop
+pub returns : goal.returns
 returns c =
-    finish _ _ _ _ _ _ (λ i. omega (arith, c.before.before.before.before.slice-known.given i)) c.loop-test.false c.before.loop.invariant
-
-pub supply_series_spec : {M : Type 1} → statement M
-supply_series_spec =
-    tie.close
-    (tie.spec
-    invariant-loop
-    decreases-loop
-    loop-holds
-    mul-n
-    shared-slice-read-n
-    stled325-supply-return-requires
-    note-requires
-    add-i
-    loop-less
-    loop-again
-    same_length
-    same-length-2
-    returns)
+    finish _ _ _ _ _ _ (λ i. omega (arith, c.slice_known-1.given i)) c.loop-i-test.false c.loop-i.invariant
