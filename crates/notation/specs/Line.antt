@@ -1,8 +1,12 @@
 -- A line of the worked examples, and what its parts write. No rule of document 01 is here.
 use Rattle.std.specs.Prelude.{ℕ, ◌-◌, Bool, true, false, cond, not, ◌||◌, List, [], ◌∷◌, eqb, ltb, take, drop}
-use Rattle.bytes.specs.Bytes.{index_of}
+use Rattle.std.specs.List.{position_or_len}
 use Rattle.notation.specs.declared.Reading.{Reading}
 use Rattle.notation.specs.Reading.{start, read_all, filled}
+
+-- the place of the first byte b of a text, or the text's length where there is none
+abbrev pub index_of : ℕ → List ℕ → ℕ
+index_of b text = position_or_len (λ c. eqb c b) text
 
 abbrev pub between : ℕ → ℕ → List ℕ → List ℕ
 between start end line = take (end - start) (drop start line)

@@ -1,10 +1,10 @@
 // How the worked examples write bytes: pairs of hexadecimal digits, which go one after the other from place 0 on, and a new place behind @.
 #![tactic(auto)]
+
 ghost use Rattle.std.specs.Prelude.{◌≡◌, ◌+◌, ◌*◌, ◌/◌, ◌%◌, ◌≤◌, min, length, get_or, set};
 ghost use Rattle.notation.specs.Reading.{digit_of, start, pair_read, digit_read, gap_read, read, stored, read_all, filled};
-ghost use Rattle.notation.specs.Line.{part, end_of, answer_end, number_of, same, is_written};
+ghost use Rattle.notation.specs.Line.{index_of, part, end_of, answer_end, number_of, same, is_written};
 
-use bytes::scan::find;
 use common::{byte_or, shorter};
 
 // What is no digit.
@@ -32,6 +32,7 @@ pub struct Reading {
 }
 
 // The value of a hexadecimal digit.
+#[tactic(auto, unfolding(crate::specs::Reading::digit_of))]
 fn digit(c: u8) -> u8
     ensures { result ≡ digit_of c }
 {
@@ -91,6 +92,7 @@ impl Reading {
     }
 
     // The next character is read.
+    #[tactic(auto, unfolding(crate::specs::Reading::read))]
     fn read(mut self, c: u8) -> Reading
         ensures { result ≡ read self c }
     {
@@ -107,6 +109,7 @@ impl Reading {
 }
 
 // Stores the byte that the next character makes whole.
+#[tactic(auto, unfolding(crate::specs::Reading::stored))]
 fn store(bytes: &mut [u8], s: Reading, c: u8)
     ensures { bytes.new ≡ stored s c bytes.old }
 {
@@ -120,6 +123,7 @@ fn store(bytes: &mut [u8], s: Reading, c: u8)
 }
 
 // Reads a text, and puts its bytes into a slice.
+#[tactic(auto, unfolding(crate::specs::Reading::read_all, crate::specs::Reading::filled))]
 fn read_all(bytes: &mut [u8], text: &[u8]) -> Reading
     ensures value { result ≡ read_all start text.now }
     ensures bytes_after { bytes.new ≡ filled start text.now bytes.old }
@@ -142,16 +146,26 @@ fn read_all(bytes: &mut [u8], text: &[u8]) -> Reading
     s.read(b' ')
 }
 
+// The place of the first byte b of a text, or the text's length where there is none.
+pub fn index_of(text: &[u8], b: u8) -> usize
+    ensures value { result ≡ index_of b text.now }
+    ensures within { result ≤ length text.now }
+{
+    text.iter().position(|x| *x == b).unwrap_or(text.len())
+}
+
 // The part of a line from one mark up to another, or to the end.
+#[tactic(auto, unfolding(crate::specs::Line::part))]
 fn part<'a>(line: &'a [u8], from: u8, to: u8) -> &'a [u8]
     ensures { result.now ≡ part from to line.now }
 {
-    let end = find(line, 0, line.len(), to);
-    let start = find(line, 0, end, from);
+    let end = index_of(line, to);
+    let start = index_of(&line[..end], from);
     &line[start..end]
 }
 
 // Puts the bytes of a part of a line into a slice. The answer is the place behind the last of them.
+#[tactic(auto, unfolding(crate::specs::Line::end_of))]
 pub fn fill(bytes: &mut [u8], line: &[u8], from: u8, to: u8) -> usize
     ensures value { result ≡ end_of from to line.now }
     ensures bytes_after { bytes.new ≡ filled start (part from to line.now) bytes.old }
@@ -165,6 +179,7 @@ pub fn fill(bytes: &mut [u8], line: &[u8], from: u8, to: u8) -> usize
 }
 
 // The number that at most five bytes of a part of a line make.
+#[tactic(auto, unfolding(crate::specs::Line::number_of))]
 pub fn number(line: &[u8], from: u8, to: u8, decimal: bool) -> u64
     ensures { result ≡ number_of from to decimal line.now }
 {
@@ -181,6 +196,7 @@ pub fn number(line: &[u8], from: u8, to: u8, decimal: bool) -> u64
 }
 
 // Where the answer that a line writes ends: behind its number, and at most 66 bytes.
+#[tactic(auto, unfolding(crate::specs::Line::answer_end))]
 pub fn answer_end(line: &[u8]) -> usize
     ensures value { result ≡ answer_end line.now }
     ensures least { 1 ≤ result }
@@ -213,6 +229,7 @@ pub fn lent(image: &[u8]) -> usize
     shorter(byte_or(image, LENT, 0) as usize, image.len())
 }
 
+#[tactic(auto, unfolding(crate::specs::Line::same))]
 fn are_same(got: [u8; 66], want: [u8; 66]) -> bool
     ensures { result ≡ same got want }
 {
@@ -227,6 +244,7 @@ fn are_same(got: [u8; 66], want: [u8; 66]) -> bool
 }
 
 // Whether what was got is what a part of a line makes of the bytes.
+#[tactic(auto, unfolding(crate::specs::Line::is_written))]
 pub fn is_written(line: &[u8], from: u8, to: u8, mut bytes: [u8; 66], got: [u8; 66]) -> bool
     ensures { result ≡ is_written from to line.now bytes got }
 {
