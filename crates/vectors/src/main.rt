@@ -3,35 +3,36 @@
 //
 // The image has 64 bytes, one too many, and how many of them are lent to a call.
 #![tactic(auto)]
-use bytes::scan::find;
+
 use common::byte_or;
-use libc::{STDIN_FILENO, STDOUT_FILENO};
+use std::io;
+use std::io::{BufWriter, Read, Write};
 
 const IMAGE: usize = 66;
 
 // The open example ends.
-fn close(passing: bool) {
+fn close(out: &mut impl Write, passing: bool) -> io::Result<()> {
     if passing {
-        io::write_all(STDOUT_FILENO, b" ok\n");
+        out.write_all(b" ok\n")?;
     }
+    Ok(())
 }
 
 // A line that did not go as written prints.
-fn fail(line: &[u8]) {
-    io::write_all(STDOUT_FILENO, b" FAILED\n  ");
-    io::write_all(STDOUT_FILENO, line);
-    io::write_all(STDOUT_FILENO, b"\n");
+fn fail(out: &mut impl Write, line: &[u8]) -> io::Result<()> {
+    out.write_all(b" FAILED\n  ")?;
+    out.write_all(line)?;
+    out.write_all(b"\n")
 }
 
 // What a call gave prints in hexadecimal, behind a mark.
-fn print_got(mark: &[u8], got: [u8; 66]) {
-    io::write_all(STDOUT_FILENO, mark);
-    let mut i = 0;
-    while i < 66 {
-        io::print_hex(STDOUT_FILENO, got[i] as u64, 2);
-        i += 1;
+fn print_got(out: &mut impl Write, mark: &[u8], got: [u8; 66]) -> io::Result<()> {
+    out.write_all(mark)?;
+    for i in 0..66 {
+        let byte = got[i];
+        write!(out, "{byte:02x}")?;
     }
-    io::write_all(STDOUT_FILENO, b"\n");
+    out.write_all(b"\n")
 }
 
 // Makes the call on the bytes that are lent of the image. The answer is its number and then its output, with EEh where nothing is written.
@@ -44,16 +45,21 @@ fn make(image: &mut [u8], line: &[u8], word: u8) -> [u8; 66] {
 }
 
 // The title prints. 64 bytes are lent from here on, and power-up writes each of them.
-fn open(image: &mut [u8; 66], line: &[u8], passing: bool) -> bool {
-    close(passing);
-    io::write_all(STDOUT_FILENO, line);
+fn open(
+    out: &mut impl Write,
+    image: &mut [u8; 66],
+    line: &[u8],
+    passing: bool,
+) -> io::Result<bool> {
+    close(out, passing)?;
+    out.write_all(line)?;
     *image = [64u8; 66];
     make(image, b"power-up", b'p');
-    true
+    Ok(true)
 }
 
 // Makes the call of a line. Its answer and the image, if one of them is not as written, print behind the marks that they are written behind.
-fn call(image: &mut [u8; 66], line: &[u8], word: u8) -> bool {
+fn call(out: &mut impl Write, image: &mut [u8; 66], line: &[u8], word: u8) -> io::Result<bool> {
     let before = *image;
     let answer = make(image, line, word);
     let after = *image;
@@ -61,52 +67,59 @@ fn call(image: &mut [u8; 66], line: &[u8], word: u8) -> bool {
     let right = notation::is_written(line, b'>', b'|', blank, answer)
         & notation::is_written(line, b'|', b'\n', before, after);
     if !right {
-        fail(line);
-        print_got(b"  got > ", answer);
-        print_got(b"  got | ", after);
+        fail(out, line)?;
+        print_got(out, b"  got > ", answer)?;
+        print_got(out, b"  got | ", after)?;
     }
-    right
+    Ok(right)
 }
 
 // Changes the image.
-fn given(image: &mut [u8; 66], line: &[u8]) -> bool {
+fn given(out: &mut impl Write, image: &mut [u8; 66], line: &[u8]) -> io::Result<bool> {
     let right = notation::fill(image, line, b' ', b'\n') <= IMAGE;
     if !right {
-        fail(line);
+        fail(out, line)?;
     }
-    right
+    Ok(right)
 }
 
 // Runs one line. The answer is whether an example is open and all went as written.
-fn run_line(image: &mut [u8; 66], line: &[u8], passing: bool) -> bool {
+fn run_line(
+    out: &mut impl Write,
+    image: &mut [u8; 66],
+    line: &[u8],
+    passing: bool,
+) -> io::Result<bool> {
     let word = byte_or(line, 0, b'#');
     if word == b'#' {
-        return passing;
+        return Ok(passing);
     }
     if (b'0' <= word) & (word <= b'9') {
-        return open(image, line, passing);
+        return open(out, image, line, passing);
     }
     if word == b'g' {
-        return given(image, line) & passing;
+        return Ok(given(out, image, line)? & passing);
     }
-    call(image, line, word) & passing
+    Ok(call(out, image, line, word)? & passing)
 }
 
 // Runs the lines one after the other.
-fn run(script: &[u8]) {
+fn run(out: &mut impl Write, script: &[u8]) -> io::Result<()> {
     let mut image = [0u8; 66];
     let mut passing = false;
     let mut at = 0;
     while at < script.len() {
-        let end = find(script, at, script.len(), b'\n');
-        passing = run_line(&mut image, &script[at..end], passing);
+        let end = at + notation::index_of(&script[at..], b'\n');
+        passing = run_line(out, &mut image, &script[at..end], passing)?;
         at = end + 1;
     }
-    close(passing);
+    close(out, passing)
 }
 
-fn main() {
-    let mut script = io::large_buffer();
-    let n = io::read_full(STDIN_FILENO, &mut script);
-    run(&script[..n]);
+fn main(rt: HostRuntime) -> io::Result<()> {
+    let mut script = Vec::new(rt.alloc());
+    rt.reader().read_to_end(&mut script)?;
+    let mut out = BufWriter::new(rt.alloc(), io::writer(&rt))?;
+    run(&mut out, &script)?;
+    out.flush()
 }
