@@ -1,5 +1,6 @@
 // The alarm: the match of a second, the first match of a day, and the first match among the seconds reached.
 #![tactic(auto)]
+
 ghost use Rattle.std.specs.Prelude.{◌≡◌, ◌-◌, ◌≤◌, ◌<◌, min};
 ghost use Rattle.calendar.specs.Clock.{limit, Valid};
 ghost use Rattle.calendar.specs.Carry.{at_time};

@@ -1,6 +1,7 @@
 // Decoding a command: its bytes are a command, or are refused by number.
 // Below, c is the first byte, a the second and b the third, 0 where there is none; n counts the bytes, and room those of the output.
 #![tactic(auto)]
+
 ghost use Rattle.std.specs.Prelude.{◌≡◌};
 ghost use Rattle.common.specs.Grounds.{first_ground};
 ghost use Rattle.command.specs.Codes.{configures, gives_digits, sets_display, listed};

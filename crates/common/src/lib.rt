@@ -1,5 +1,6 @@
 // What every crate shares: a bit by its weight, a byte by its place, the smaller of two lengths. The definitions and laws that all crates cite are in specs/ and proofs/.
 #![tactic(auto)]
+
 ghost use Rattle.std.specs.Prelude.{◌≡◌, cond, ◌<◌, ◌≤◌, min, get_or};
 ghost use Rattle.common.specs.Bits.{bit_set};
 

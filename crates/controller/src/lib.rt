@@ -1,6 +1,7 @@
 // What both panel kinds share: the state by value, and the events, which stand by subject in the modules. Each event takes the state and gives
 // the next one.
 #![tactic(auto)]
+
 ghost use Rattle.std.specs.Prelude.{◌≡◌, ◌≤◌};
 ghost use Rattle.controller.specs.Standby.{standby_begun, standby_ended, raised};
 

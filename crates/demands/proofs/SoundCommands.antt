@@ -21,7 +21,6 @@ use Rattle.registers.proofs.Reserved.{written_clear, written_bytes}
 use Rattle.timekeeper.specs.Clock.{valid_calendar}
 use Rattle.units.specs.declared.Sixteenths.{Sixteenths}
 use Rattle.controller.specs.declared.Core.{Core}
-use Rattle.controller.specs.State.{rtc, sixteenths}
 use Rattle.controller.specs.Sound.{Sound}
 use Rattle.properties.proofs.SoundParts.{sound_rtc, sound_power, sound_setup, sound_keys, sound_remote, sound_interrupt, sound_timers}
 use Rattle.properties.proofs.Sound.{sound_standby_begun}

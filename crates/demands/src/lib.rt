@@ -1,6 +1,7 @@
 // Demands 1 and 2 are theorems over `after`, the outcome of an event. Each function here makes one exported call, and its promise says that
 // what the call does is that outcome; so the theorems are of the calls themselves, and a call that promised less would fail here.
 #![tactic(auto)]
+
 ghost use Rattle.std.specs.Prelude.{◌≡◌, []};
 ghost use Rattle.stled325.specs.Outcome.{outcome};
 ghost use Rattle.demands.specs.Event.{power_up, tick, sample, frame, ready, wake_up, command, show, lines, supply_return, after};

@@ -1,5 +1,6 @@
 // What the panel shows: digits, clock face, and the lines STBY, MUTE and IRQ.
 #![tactic(auto)]
+
 ghost use Rattle.std.specs.Prelude.{◌≡◌, take};
 ghost use Rattle.display.specs.Font.{segments, nibbles};
 ghost use Rattle.display.specs.Hours.{leading, unpadded, hours_shown};

@@ -1,5 +1,6 @@
 // What commands make of the state that both panel kinds share.
 #![tactic(auto)]
+
 ghost use Rattle.std.specs.Prelude.{◌≡◌, cond};
 ghost use Rattle.effects.specs.Configure.{configured, mask_set, guard_reloaded};
 ghost use Rattle.effects.specs.Write.{touched, calendar_touched, answer, registers_answer};

@@ -2,11 +2,8 @@
 use Prim.Native.Nat.{ℕ}
 use mathlib.Core.Path.{◌≡◌, sym, ap, ◌∙◌}
 use mathlib.Core.Bool.{Bool, true, false}
-use mathlib.Core.List.{List, ◌++◌, append-nil}
+use mathlib.Core.List.{List}
 use native.Mathlib.Omega.{arith}
-use native.Mathlib.Nat.{le_of_eq}
-use lib.ListN.{length, take, drop, drop_of_length-le}
-use lib.Seq.{take-length}
 use Rattle.common.proofs.Choice.{on_true, on_false, by_cases}
 use Rattle.command.specs.declared.Command.{Command}
 use Rattle.controller.specs.declared.Core.{Core}
@@ -19,7 +16,6 @@ use Rattle.panel.specs.Execute.{executed, served_as, served}
 use Rattle.panel.specs.Read.{output_after}
 use Rattle.image.specs.Image.{decoded, encoded}
 use Rattle.supply.specs.Return.{panel_returned}
-use Rattle.events.specs.Show.{shown_in}
 use Rattle.events.specs.Serve.{number_left, image_left, output_left}
 
 -- the panel of a copied image

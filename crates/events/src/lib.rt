@@ -1,5 +1,6 @@
 // What the calls do to an image of 64 bytes that they found valid, and what they read of it: decode, event, encode.
 #![tactic(auto)]
+
 ghost use Rattle.std.specs.Prelude.{◌≡◌, ◌≤◌, length};
 ghost use Rattle.calendar.specs.Clock.{limit, Valid};
 ghost use Rattle.timekeeper.specs.Clock.{clock_of};

@@ -1,5 +1,6 @@
 // The image of 64 bytes: taken in and written out by value, the state that it holds, and the image of a state.
 #![tactic(auto)]
+
 ghost use Rattle.std.specs.Prelude.{◌≡◌, ◌+◌, ◌*◌, ◌<◌, length};
 ghost use Rattle.image.specs.Layout.{image_len, word_at};
 ghost use Rattle.image.specs.Image.{registers_in, rtc_in, power_in, setup_in, keys_in, remote_in, core_in, display_in, decoded, pins_byte, state_bytes, laid_out, encoded};

@@ -1,5 +1,6 @@
 // The output of a reading command: the reply's bytes, then FFh to the end.
 #![tactic(auto)]
+
 ghost use Rattle.std.specs.Prelude.{◌≡◌, length};
 ghost use Rattle.output.specs.Output.{answered};
 

@@ -1,5 +1,6 @@
 // The first panel kind, the STLED325: the shared state with a display of five digits, and the commands.
 #![tactic(auto)]
+
 ghost use Rattle.std.specs.Prelude.{◌≡◌, length, drop};
 ghost use Rattle.output.specs.Output.{answered};
 ghost use Rattle.panel.specs.PowerUp.{panel_powered_up};

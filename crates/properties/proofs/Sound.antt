@@ -20,7 +20,7 @@ use Rattle.registers.specs.Names.{stopped, afe, wdfen}
 use Rattle.timekeeper.specs.Clock.{clock_of, with_clock, valid_calendar}
 use Rattle.timekeeper.specs.Alarm.{alarm_of}
 use Rattle.controller.specs.declared.Core.{Core}
-use Rattle.controller.specs.State.{with_power, with_remote, rtc, power, keys, remote, sixteenths, guard_standby, all_hot, remote_wakes, wake_up_counts, KEY, REMOTE, WAKE_UP, RTC, ALARM_FLAG, WATCHDOG_FLAG}
+use Rattle.controller.specs.State.{with_power, with_remote, rtc, power, remote, sixteenths, guard_standby, all_hot, remote_wakes, wake_up_counts, KEY, REMOTE, WAKE_UP, RTC, ALARM_FLAG, WATCHDOG_FLAG}
 use Rattle.controller.specs.Standby.{guard_load, standby_begun, standby_ended, raised}
 use Rattle.controller.specs.Tick.{second_passed, clock_ticked, watchdog_ticked, guard_ticked, ticked}
 use Rattle.controller.specs.Keys.{without, counted, pressed, sampled}

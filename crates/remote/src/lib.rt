@@ -1,5 +1,6 @@
 // Remote frames, NEC and RC-5: a number of 32 bits is a key, or none.
 #![tactic(auto)]
+
 ghost use Rattle.std.specs.Prelude.{◌≡◌};
 ghost use Rattle.remote.specs.Frame.{is_protocol, addressed, nec_key, rc5_key, sent_by, key_of, refusal_of};
 

@@ -1,5 +1,6 @@
 // The calls of the worked examples as their lines write them: a word, which is known by its first letter, and its arguments, up to >.
 #![tactic(auto)]
+
 ghost use Rattle.std.specs.Prelude.{◌≡◌, []};
 ghost use Rattle.stled325.specs.Outcome.{outcome};
 ghost use Rattle.script.specs.Script.{ticks_made, command_made, event_made, event_read, made};

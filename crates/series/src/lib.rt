@@ -1,5 +1,6 @@
 // Demand 3 as the promise of code: a series of supply returns, each the real call, with no other event between.
 #![tactic(auto)]
+
 ghost use Rattle.std.specs.Prelude.{◌≡◌, set};
 ghost use Rattle.series.specs.Demand.{Demand3};
 

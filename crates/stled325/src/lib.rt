@@ -1,5 +1,6 @@
 // The exported calls over a lent image of 64 bytes: each checks it, and leaves what its event leaves. Every call returns its refusal number, 0 where accepted.
 #![tactic(auto)]
+
 ghost use Rattle.std.specs.Prelude.{◌≡◌, []};
 ghost use Rattle.stled325.specs.Outcome.{outcome};
 ghost use Rattle.stled325.specs.Calls.{power_up_call, tick_call, sample_call, ready_call, wake_up_call, frame_call, supply_return_call, show_call, lines_call};

@@ -1,6 +1,7 @@
 // Supply return: the state at power-up, but for the clock, which moved on over the cut. Here is what both panel kinds share; a module for each
 // kind puts its panel around it.
 #![tactic(auto)]
+
 ghost use Rattle.std.specs.Prelude.{◌≡◌, ◌≤◌};
 ghost use Rattle.calendar.specs.Clock.{limit, Valid};
 ghost use Rattle.timekeeper.specs.Clock.{clock_of};

@@ -1,5 +1,6 @@
 // What the clock registers say: the calendar, the alarm, whether they are valid, and what a write to them leaves.
 #![tactic(auto)]
+
 ghost use Rattle.std.specs.Prelude.{◌≡◌, ◌/◌};
 ghost use Rattle.common.specs.Tests.{conj};
 ghost use Rattle.timekeeper.specs.Bcd.{digits, bcd, decimal_tests};

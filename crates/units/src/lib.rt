@@ -1,5 +1,6 @@
 // The two units of time and the only conversions between them: the guard value and a supply cut are seconds, the timers run in sixteenths.
 #![tactic(auto)]
+
 ghost use Rattle.std.specs.Prelude.{◌≡◌};
 ghost use Rattle.units.specs.Units.{sixteenths_of, one_more, fills_second};
 

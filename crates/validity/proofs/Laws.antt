@@ -14,7 +14,6 @@ use Rattle.common.proofs.Tests.{each, all_hold}
 use Rattle.timekeeper.specs.Clock.{valid_calendar}
 use Rattle.controller.specs.Sound.{Sound, SoundRtc, SoundSetup, SoundPower, SoundKeys, SoundRemote}
 use Rattle.panel.specs.declared.Panel.{Panel}
-use Rattle.image.specs.Layout as at
 use Rattle.image.specs.Layout.{image_len, UNUSED, byte_at, Bytes, word_at}
 use Rattle.image.specs.Image.{rtc_in, power_in, setup_in, keys_in, remote_in, core_in, display_in, decoded, setup_byte, encoded}
 use Rattle.image.specs.Sound.{SoundDisplay, SoundPanel}

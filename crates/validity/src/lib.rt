@@ -1,5 +1,6 @@
 // Which images are valid.
 #![tactic(auto)]
+
 ghost use Rattle.std.specs.Prelude.{◌≡◌};
 ghost use Rattle.common.specs.Tests.{conj};
 ghost use Rattle.validity.specs.Valid.{unnamed_tests, tail_tests, range_tests, guard_within, watchdog_within, state_tests, is_valid};

@@ -1,13 +1,8 @@
-use mathlib.Core.Path.{◌≡◌, sym, subst, ◌∙◌}
-use mathlib.Core.Bool.{true, false}
+use mathlib.Core.Path.{◌≡◌}
+use mathlib.Core.Bool.{false}
 use Prim.Native.Nat.{ℕ, ◌+◌, ◌-◌, ◌≤◌, ◌<◌}
-use native.Mathlib.Omega.{arith}
 use Rattle.alarm.specs.declared.Alarm.{Alarm}
-use Rattle.alarm.specs.Search.{first_from}
 use Rattle.alarm.specs.Match.{time_fits}
-use Rattle.alarm.specs.Skip.{candidate_after}
-use Rattle.alarm.proofs.Search.{longer, first_is}
-use Rattle.alarm.proofs.Match.{candidate_none, candidate_range}
 use Rattle.alarm.proofs.first_time.Given as goal
 
 -- the seconds from t up to u do not fit

@@ -1,17 +1,10 @@
-use mathlib.Core.Path.{◌≡◌, sym, ap, subst, ◌∙◌}
+use mathlib.Core.Path.{◌≡◌}
 use mathlib.Core.Bool.{false}
-use Prim.Native.Nat.{ℕ, ◌+◌, ◌-◌, ◌≤◌, ◌<◌, min}
-use native.Mathlib.Omega.{arith}
+use Prim.Native.Nat.{ℕ, ◌+◌, ◌-◌, ◌≤◌, ◌<◌}
 use Rattle.calendar.specs.declared.Clock.{Clock}
-use Rattle.calendar.specs.Clock.{Valid, time_of, moved}
-use Rattle.calendar.specs.Carry.{at_time, next_day}
-use Rattle.calendar.proofs.Moved.{time_below, moved_none, time_valid}
+use Rattle.calendar.specs.Clock.{time_of, moved}
 use Rattle.alarm.specs.declared.Alarm.{Alarm}
-use Rattle.alarm.specs.Search.{first_from, IsFirst}
 use Rattle.alarm.specs.Match.{matches}
-use Rattle.alarm.specs.Reached.{first_reached}
-use Rattle.alarm.proofs.Search.{as_first}
-use Rattle.alarm.proofs.Reached.{on_day, further, reached_is, next_on}
 use Rattle.alarm.proofs.walk_days.Given as goal
 
 pub record Walked (a : Alarm) (start end : ℕ) (m d : Clock) (base t : ℕ) : Type 0 where

@@ -1,9 +1,8 @@
 -- `output::answer` meets its contract. The loop's invariant: the bytes before `i` are written. Assumes nothing.
-use Prim.Native.Nat.{ℕ, ◌≤◌, ◌-◌}
-use mathlib.Core.Path.{◌≡◌, refl, sym, ◌∙◌}
-use lib.ListN.{length, get_or}
+use Prim.Native.Nat.{ℕ}
+use mathlib.Core.Path.{refl, sym, ◌∙◌}
+use lib.ListN.{get_or}
 use native.Mathlib.Omega.{arith}
-use Rattle.common.specs.Fill.{front}
 use Rattle.common.proofs.Fill.{front_none, front_more, front_all}
 use Rattle.output.specs.Output.{answered}
 use borrow.Author.Rules.{rules}

@@ -1,11 +1,7 @@
-use Prim.Native.Nat.{ℕ, ◌≤◌, ◌-◌}
-use mathlib.Core.Path.{◌≡◌, refl, sym, ◌∙◌}
+use Prim.Native.Nat.{◌≤◌, ◌-◌}
+use mathlib.Core.Path.{◌≡◌}
 use lib.ListN.{length, get_or}
-use native.Mathlib.Omega.{arith}
 use Rattle.common.specs.Fill.{front}
-use Rattle.common.proofs.Fill.{front_none, front_more, front_all}
-use Rattle.output.specs.Output.{answered}
-use borrow.Author.Rules.{rules}
 use Rattle.output.proofs.answer.Given as goal
 
 abbrev pub invariant-loop-i : goal.invariant-loop-i

@@ -1,10 +1,7 @@
 -- `registers::store` meets its contract. The loop's invariant: the bytes before `j` are stored. Assumes nothing.
-use Prim.Native.Nat.{◌≤◌, ◌-◌}
-use mathlib.Core.Path.{◌≡◌, refl, sym, ◌∙◌}
-use lib.ListN.{length, take}
+use mathlib.Core.Path.{refl, sym, ◌∙◌}
 use native.Mathlib.Numerals.{add-one}
 use native.Mathlib.Omega.{arith}
-use Rattle.registers.specs.Written.{stored}
 use Rattle.registers.proofs.Written.{stored_none, stored_more, stored_all}
 use borrow.Author.Rules.{rules}
 use Rattle.registers.proofs.store.Goals as goal

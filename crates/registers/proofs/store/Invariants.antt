@@ -1,11 +1,7 @@
 use Prim.Native.Nat.{◌≤◌, ◌-◌}
-use mathlib.Core.Path.{◌≡◌, refl, sym, ◌∙◌}
+use mathlib.Core.Path.{◌≡◌}
 use lib.ListN.{length, take}
-use native.Mathlib.Numerals.{add-one}
-use native.Mathlib.Omega.{arith}
 use Rattle.registers.specs.Written.{stored}
-use Rattle.registers.proofs.Written.{stored_none, stored_more, stored_all}
-use borrow.Author.Rules.{rules}
 use Rattle.registers.proofs.store.Given as goal
 
 abbrev pub invariant-loop-j : goal.invariant-loop-j

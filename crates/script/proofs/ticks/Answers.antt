@@ -1,9 +1,6 @@
 -- `script::ticks` meets its contract. The invariant: the ticks that are left, from the image as it is, give what all of them do. Assumes nothing.
-use Prim.Native.Nat.{◌-◌, ◌≤◌}
-use mathlib.Core.Path.{◌≡◌, refl, ◌∙◌}
+use mathlib.Core.Path.{refl, ◌∙◌}
 use native.Mathlib.Omega.{arith}
-use lib.ListN.{length}
-use Rattle.script.specs.Script.{ticks_made}
 use Rattle.script.proofs.Made.{tick_refused, tick_made, no_tick, ticks_done}
 use Rattle.script.proofs.ticks.Goals as goal
 

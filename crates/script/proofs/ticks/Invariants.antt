@@ -1,9 +1,7 @@
 use Prim.Native.Nat.{◌-◌, ◌≤◌}
-use mathlib.Core.Path.{◌≡◌, refl, ◌∙◌}
-use native.Mathlib.Omega.{arith}
+use mathlib.Core.Path.{◌≡◌}
 use lib.ListN.{length}
 use Rattle.script.specs.Script.{ticks_made}
-use Rattle.script.proofs.Made.{tick_refused, tick_made, no_tick, ticks_done}
 use Rattle.script.proofs.ticks.Given as goal
 
 abbrev pub invariant-loop-i : goal.invariant-loop-i

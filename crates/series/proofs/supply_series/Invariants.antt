@@ -1,17 +1,8 @@
-use Prim.Native.Nat.{ℕ, suc, ◌+◌, ◌-◌, ◌≤◌, ◌<◌}
-use mathlib.Core.Path.{◌≡◌, refl, sym, ap, subst, ◌∙◌}
-use mathlib.Core.List.{List, [], ◌∷◌, ◌++◌}
-use native.Mathlib.Omega.{arith}
-use native.Mathlib.Numerals.{add-one}
-use lib.ListN.{length, get_or, take, set, length-set}
-use lib.Seq.{take-suc, take_all, length-take-le}
-use Rattle.image.specs.Layout.{Bytes}
-use Rattle.stled325.specs.Outcome.{Outcome, outcome}
-use Rattle.stled325.specs.Calls.{supply_return_call}
+use Prim.Native.Nat.{ℕ, ◌-◌, ◌≤◌}
+use mathlib.Core.Path.{◌≡◌}
+use mathlib.Core.List.{List}
+use lib.ListN.{length, take}
 use Rattle.series.specs.Series.{image_after_series, numbers, noted}
-use Rattle.series.specs.Demand.{Demand3}
-use Rattle.series.proofs.Series.{length_call}
-use Rattle.series.proofs.Demand.{series}
 use Rattle.series.proofs.supply_series.Given as goal
 
 -- the first i returns are made

@@ -1,5 +1,4 @@
 -- `stled325::stled325_supply_return` meets its contract. Assumes nothing.
-use native.Mathlib.Omega.{arith}
 use Rattle.stled325.proofs.Calls.{call_refused, return_refused, return_allowed, return_done}
 use borrow.Author.Rules.{rules}
 use mathlib.Core.Path.{ap}

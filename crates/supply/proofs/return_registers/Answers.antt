@@ -1,11 +1,11 @@
 -- `supply::return_registers` meets its contract. Assumes nothing.
-use mathlib.Core.Path.{◌≡◌, sym, ap, subst, ◌∙◌}
+use mathlib.Core.Path.{◌≡◌, sym, ap, ◌∙◌}
 use mathlib.Core.Bool.{Bool, true, false}
 use mathlib.Core.List.{List}
 use Prim.Native.Nat.{ℕ}
 use Rattle.common.proofs.Choice.{on_true, on_false}
 use Rattle.calendar.specs.declared.Clock.{Clock}
-use Rattle.calendar.specs.Clock.{Valid, moved}
+use Rattle.calendar.specs.Clock.{moved}
 use Rattle.registers.specs.Names.{stopped}
 use Rattle.timekeeper.specs.Clock.{clock_of, with_clock}
 use Rattle.supply.specs.Return.{registers_returned}
