@@ -1,4 +1,4 @@
-// The exported calls over a lent image of 64 bytes: each checks it, and leaves what its event leaves. Every call returns its refusal number, 0 where accepted.
+// The calls over a lent image of 64 bytes, which stled325_c exports: each checks it, and leaves what its event leaves. Every call returns its refusal number, 0 where accepted.
 #![tactic(auto)]
 
 ghost use Rattle.std.specs.Prelude.{◌≡◌, []};
@@ -15,8 +15,7 @@ const DIGITS_LEN: usize = 5;
 
 const LINES_LEN: usize = 1;
 
-#[unsafe(no_mangle)]
-pub extern "C" fn stled325_power_up(image: &mut [u8]) -> u32
+pub fn stled325_power_up(image: &mut [u8]) -> u32
     ensures { outcome result image.new [] ≡ power_up_call image.old }
 {
     if image.len() != image::IMAGE_LEN {
@@ -26,8 +25,7 @@ pub extern "C" fn stled325_power_up(image: &mut [u8]) -> u32
     0
 }
 
-#[unsafe(no_mangle)]
-pub extern "C" fn stled325_tick(image: &mut [u8]) -> u32
+pub fn stled325_tick(image: &mut [u8]) -> u32
     ensures { outcome result image.new [] ≡ tick_call image.old }
 {
     if !validity::is_valid(image) {
@@ -37,8 +35,7 @@ pub extern "C" fn stled325_tick(image: &mut [u8]) -> u32
     0
 }
 
-#[unsafe(no_mangle)]
-pub extern "C" fn stled325_key_sample(image: &mut [u8], sample: u16) -> u32
+pub fn stled325_key_sample(image: &mut [u8], sample: u16) -> u32
     ensures { outcome result image.new [] ≡ sample_call image.old sample }
 {
     if !validity::is_valid(image) {
@@ -48,8 +45,7 @@ pub extern "C" fn stled325_key_sample(image: &mut [u8], sample: u16) -> u32
     0
 }
 
-#[unsafe(no_mangle)]
-pub extern "C" fn stled325_ready(image: &mut [u8], level: u32) -> u32
+pub fn stled325_ready(image: &mut [u8], level: u32) -> u32
     ensures { outcome result image.new [] ≡ ready_call image.old level }
 {
     if !validity::is_valid(image) {
@@ -59,8 +55,7 @@ pub extern "C" fn stled325_ready(image: &mut [u8], level: u32) -> u32
     0
 }
 
-#[unsafe(no_mangle)]
-pub extern "C" fn stled325_wake_up(image: &mut [u8], level: u32) -> u32
+pub fn stled325_wake_up(image: &mut [u8], level: u32) -> u32
     ensures { outcome result image.new [] ≡ wake_up_call image.old level }
 {
     if !validity::is_valid(image) {
@@ -70,8 +65,7 @@ pub extern "C" fn stled325_wake_up(image: &mut [u8], level: u32) -> u32
     0
 }
 
-#[unsafe(no_mangle)]
-pub extern "C" fn stled325_remote_frame(image: &mut [u8], frame: u32) -> u32
+pub fn stled325_remote_frame(image: &mut [u8], frame: u32) -> u32
     ensures { outcome result image.new [] ≡ frame_call image.old frame }
 {
     if !validity::is_valid(image) {
@@ -86,8 +80,7 @@ pub extern "C" fn stled325_remote_frame(image: &mut [u8], frame: u32) -> u32
     0
 }
 
-#[unsafe(no_mangle)]
-pub extern "C" fn stled325_command(image: &mut [u8], bytes: &[u8], out: &mut [u8]) -> u32
+pub fn stled325_command(image: &mut [u8], bytes: &[u8], out: &mut [u8]) -> u32
     ensures { outcome result image.new out.new ≡ command_call image.old bytes.now out.old }
 {
     if !validity::is_valid(image) {
@@ -101,8 +94,7 @@ pub extern "C" fn stled325_command(image: &mut [u8], bytes: &[u8], out: &mut [u8
     events::serve(image, k, bytes, out)
 }
 
-#[unsafe(no_mangle)]
-pub extern "C" fn stled325_supply_return(image: &mut [u8], seconds: u32) -> u32
+pub fn stled325_supply_return(image: &mut [u8], seconds: u32) -> u32
     ensures { outcome result image.new [] ≡ supply_return_call image.old seconds }
 {
     if !validity::is_valid(image) {
@@ -116,8 +108,7 @@ pub extern "C" fn stled325_supply_return(image: &mut [u8], seconds: u32) -> u32
     0
 }
 
-#[unsafe(no_mangle)]
-pub extern "C" fn stled325_show(image: &[u8], digits: &mut [u8]) -> u32
+pub fn stled325_show(image: &[u8], digits: &mut [u8]) -> u32
     ensures { outcome result image.now digits.new ≡ show_call image.now digits.old }
 {
     if !validity::is_valid(image) {
@@ -130,8 +121,7 @@ pub extern "C" fn stled325_show(image: &[u8], digits: &mut [u8]) -> u32
     0
 }
 
-#[unsafe(no_mangle)]
-pub extern "C" fn stled325_lines(image: &[u8], lines: &mut [u8]) -> u32
+pub fn stled325_lines(image: &[u8], lines: &mut [u8]) -> u32
     ensures { outcome result image.now lines.new ≡ lines_call image.now lines.old }
 {
     if !validity::is_valid(image) {
