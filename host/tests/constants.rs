@@ -77,13 +77,14 @@ fn counterpart(name: &str) -> Option<(&str, String, u32, &[&str])> {
     })
 }
 
-/// The number that a line gives to the name: `pub const NAME: u8 = 8;` in code, `NAME = 8` in a definition.
+/// The number that a line gives to the name: `pub const NAME: u8 = 8;` in code, `NAME = 8` in a definition, or `name = 8` where a
+/// clause cites it beside the constant.
 fn stated(line: &str, name: &str) -> Option<u32> {
     let (left, right) = line.split_once(" = ")?;
     let item = left.trim_start();
     let declared = match item.strip_prefix("pub ").unwrap_or(item).strip_prefix("const ") {
         Some(constant) => constant.split(':').next()?.to_string(),
-        None => left.replace('-', "_"),
+        None => left.to_uppercase(),
     };
     number(right.split_whitespace().next()?).filter(|_| declared == name)
 }
@@ -119,8 +120,9 @@ fn complaints(name: &str, value: u32) -> Vec<String> {
 fn a_number_that_differs_or_is_missing_is_noticed() {
     assert_eq!(stated("pub const LIMIT: u32 = 31_622_400;", "LIMIT"), Some(31_622_400));
     assert_eq!(stated("    const KEY: u8 = 8; // b3", "KEY"), Some(8));
-    assert_eq!(stated("ALARM-MONTH = 0x0A", "ALARM_MONTH"), Some(0x0A));
-    assert_eq!(stated("ALARM-MONTHS = 0x0A", "ALARM_MONTH"), None);
+    assert_eq!(stated("limit = 31_622_400", "LIMIT"), Some(31_622_400));
+    assert_eq!(stated("ALARM_MONTH = 0x0A", "ALARM_MONTH"), Some(0x0A));
+    assert_eq!(stated("ALARM_MONTHS = 0x0A", "ALARM_MONTH"), None);
     assert_eq!(stated("MONTH l = 0x0A", "MONTH"), None);
     for (name, value, wrong) in
         [("REG_YEAR", 7, 0), ("REG_YEAR", 8, 2), ("REG_YEARS", 7, 2), ("INT_KEY", 8, 2), ("YEAR", 7, 1)]

@@ -177,5 +177,5 @@ fn only_the_two_places_named_look_into_the_leap_rule() {
         places.extend(vec![file.strip_prefix(top()).unwrap().display().to_string(); clauses]);
     }
     places.sort();
-    assert_eq!(places, ["crates/calendar/proofs/Date.antt", "crates/calendar/proofs/is_leap/Proof.antt"]);
+    assert_eq!(places, ["crates/calendar/proofs/Date.antt", "crates/calendar/proofs/is_leap/Answers.antt"]);
 }

@@ -63,7 +63,7 @@ fn a_prototype_that_differs_is_noticed() {
 
 #[test]
 fn the_header_declares_the_exported_calls() {
-    let calls = exported(include_str!("../../crates/stled325/src/lib.rt"));
+    let calls = exported(include_str!("../../crates/stled325_c/src/lib.rt"));
     assert_eq!(calls.len(), 10);
     assert_eq!(calls, declared(include_str!("../../include/stled325.h")));
 }

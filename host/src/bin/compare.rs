@@ -76,7 +76,7 @@ fn compare_archive(options: &Options) -> ExitCode {
 fn compare_archive(_: &Options) -> ExitCode {
     eprintln!(
         "compare: there was no archive {} when this program was built.\n\
-         Make it with `rt staticlib stled325`, or name its folder in STLED325_LIB_DIR, and build again.\n\
+         Make it with `bash tools/archive`, or name its folder in STLED325_LIB_DIR, and build again.\n\
          (`compare --faults` needs no archive.)",
         env!("STLED325_ARCHIVE")
     );
