@@ -61,6 +61,26 @@ fn a_prototype_that_differs_is_noticed() {
     assert_ne!(exported(source), declared(&right.replace("uint16_t n", "uint32_t n")));
 }
 
+/// What stands from each public function's name up to its body: parameters, result and promise.
+fn promised(source: &str) -> BTreeMap<&str, &str> {
+    let heads = source.split("\npub ").skip(1).filter_map(|item| item.split_once("fn "));
+    heads.filter_map(|(_, rest)| rest.split_once("\n{")?.0.split_once('(')).collect()
+}
+
+#[test]
+fn each_export_promises_what_the_call_of_its_name_promises() {
+    let call = "\npub fn x(n: u16) -> u32\n    ensures { result ≡ n }\n{\n    n\n}\n";
+    let export = call.replace("pub fn", "pub extern \"C\" fn");
+    assert_eq!(promised(call), promised(&export));
+    for wrong in [export.replace("≡ n", "≡ 0"), export.replace("u16", "u32"), export.replace("fn x", "fn y")]
+    {
+        assert_ne!(promised(call), promised(&wrong), "{wrong}");
+    }
+    let calls = promised(include_str!("../../crates/stled325/src/lib.rt"));
+    assert_eq!(calls.len(), 10);
+    assert_eq!(calls, promised(include_str!("../../crates/stled325_c/src/lib.rt")));
+}
+
 #[test]
 fn the_header_declares_the_exported_calls() {
     let calls = exported(include_str!("../../crates/stled325_c/src/lib.rt"));
