@@ -32,7 +32,7 @@ sixteenth_passed c =
 unfoldable pub clock_ticked : Core → Core
 clock_ticked c = cond (stopped c.rtc.registers) c (sixteenth_passed c)
 
--- second step: the watchdog, if running and the oscillator runs, falls by one; at 0, with wdfen, its flag and an RTC event
+-- second step: the watchdog, if running and the oscillator runs, falls by one; at 0, with WDFEn, its flag and an RTC event
 unfoldable pub watchdog_ticked : Core → Core
 watchdog_ticked c =
     cond (eqb c.rtc.watchdog.0 0 || stopped c.rtc.registers) c

@@ -2,8 +2,11 @@
 use Prim.Native.Nat.{ℕ}
 use mathlib.Core.Path.{◌≡◌, sym, ap, ◌∙◌}
 use mathlib.Core.Bool.{Bool, true, false}
-use mathlib.Core.List.{List}
+use mathlib.Core.List.{List, ◌++◌, append-nil}
 use native.Mathlib.Omega.{arith}
+use native.Mathlib.Nat.{le_of_eq}
+use lib.ListN.{length, take, drop, drop_of_length-le}
+use lib.Seq.{take-length}
 use Rattle.common.proofs.Choice.{on_true, on_false, by_cases}
 use Rattle.command.specs.declared.Command.{Command}
 use Rattle.controller.specs.declared.Core.{Core}
@@ -16,6 +19,7 @@ use Rattle.panel.specs.Execute.{executed, served_as, served}
 use Rattle.panel.specs.Read.{output_after}
 use Rattle.image.specs.Image.{decoded, encoded}
 use Rattle.supply.specs.Return.{panel_returned}
+use Rattle.events.specs.Show.{shown_in}
 use Rattle.events.specs.Serve.{number_left, image_left, output_left}
 
 -- the panel of a copied image
@@ -65,3 +69,8 @@ module _ (l : List ℕ) (p : Panel) (ep : p ≡ decoded l) where
     serve_done z m q em eq =
         by_cases (Left 0 m q) lost (λ t. absurd (let y : ◌≡◌ {A = ℕ} 0 9 = sym z ∙ ap (λ (x : Served). x.refusal) (on_lost t) in omega arith))
         (λ f. (on_false 9 0 f, (em ∙ ap (λ (x : Served). encoded x.panel) (on_kept f) ∙ on_false l (encoded (executed (decoded l) k s)) f, eq ∙ ap (λ (x : Panel). output_after x.core k o) ep ∙ on_false o (output_after (decoded l).core k o) f)))
+
+-- what show writes into a buffer of five bytes
+pub show_copied : (l : List ℕ) (p : Panel) → p ≡ decoded l → (s o m : List ℕ) → s ≡ shown_in p → length s ≡ 5 → length o ≡ 5 → m ≡ take (length s) s ++ drop (length s) o → m ≡ shown_in (decoded l)
+show_copied l p ep s o m es ns n5 em =
+    em ∙ (λ i. take-length s i ++ drop_of_length-le o {i = length s} (le_of_eq (n5 ∙ sym ns)) i) ∙ append-nil s ∙ es ∙ ap shown_in ep

@@ -25,7 +25,7 @@ next_second c = next (clock_of c.rtc.registers)
 unfoldable pub alarm_rises : Core → Bool
 alarm_rises c = second_passes c && (afe c.rtc.registers && matches (alarm_of c.rtc.registers) (next_second c))
 
--- the watchdog, one sixteenth from its end, falls while the oscillator runs, with wdfen set
+-- the watchdog, one sixteenth from its end, falls while the oscillator runs, with WDFEn set
 unfoldable pub watchdog_ends : Core → Bool
 watchdog_ends c = eqb c.rtc.watchdog.0 1 && (not (stopped c.rtc.registers) && wdfen c.rtc.registers)
 

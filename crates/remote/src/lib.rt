@@ -44,6 +44,7 @@ fn nec_key(frame: u32) -> Received
 }
 
 // RC-5: two start bits, toggle, 5 bits of address, 6 of command, from bit 13 down.
+#[tactic(auto, unfolding(crate::specs::Frame::rc5_key))]
 fn rc5_key(frame: u32) -> Received
     ensures { result ≡ rc5_key frame }
 {

@@ -15,6 +15,7 @@ const DIGITS_LEN: usize = 5;
 
 const LINES_LEN: usize = 1;
 
+#[tactic(auto, using(crate::proofs::Calls::up_short))]
 pub fn stled325_power_up(image: &mut [u8]) -> u32
     ensures { outcome result image.new [] ≡ power_up_call image.old }
 {
@@ -94,6 +95,7 @@ pub fn stled325_command(image: &mut [u8], bytes: &[u8], out: &mut [u8]) -> u32
     events::serve(image, k, bytes, out)
 }
 
+#[tactic(auto, using(crate::proofs::Calls::return_refused))]
 pub fn stled325_supply_return(image: &mut [u8], seconds: u32) -> u32
     ensures { outcome result image.new [] ≡ supply_return_call image.old seconds }
 {
