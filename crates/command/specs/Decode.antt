@@ -1,12 +1,12 @@
 -- Which command its bytes are (document 01, "Commands"), and the answer to them.
-use Rattle.std.specs.Prelude.{ℕ, ◌+◌, ◌*◌, ◌/◌, ◌%◌, Bool, cond, List, eqb}
+use Rattle.std.specs.Prelude.{ℕ, ◌+◌, ◌*◌, ◌/◌, ◌%◌, Bool, cond, List, eqb, Result, Ok, Err}
 use Rattle.common.specs.Grounds.{first_ground}
+use Rattle.common.specs.declared.refusal.Refusal.{Refusal}
+use Rattle.common.specs.Refused.{refusal_numbered}
 use Rattle.command.specs.Codes.{WRITE_DIGITS, WRITE_REGISTERS, READ_KEYS, READ_REMOTE, READ_INTERRUPTS, READ_REGISTERS, SET_HOT_KEYS, STANDBY, configures, gives_digits, sets_display}
 use Rattle.command.specs.Refusals.{byte, grounds}
 use Rattle.command.specs.declared.Command.{Command}
 use Rattle.command.specs.declared.Command.TheVariants.{Configure, ConfigureDigits, WriteDigits, WriteRegisters, ReadKeys, ReadRemote, ReadInterrupts, ReadRegisters, SetDisplay, SetHotKeys, Standby, ReloadGuard}
-use Rattle.command.specs.declared.Decoded.{Decoded}
-use Rattle.command.specs.declared.Decoded.TheVariants.{Accepted, Refused}
 
 -- b5..b0 with b4 zero, of a byte of the configuration group
 abbrev pub configuration_bits : ℕ → ℕ
@@ -31,14 +31,9 @@ abbrev pub command_of : List ℕ → Command
 command_of s = command_by (byte s 0) (byte s 1) (byte s 2)
 
 -- refused by the first ground that holds, else accepted
-abbrev pub decoded_by : ℕ → Command → Decoded
-decoded_by number k = cond (eqb number 0) (Accepted k) (Refused number)
+abbrev pub decoded_by : ℕ → Command → Result Command Refusal
+decoded_by number k = cond (eqb number 0) (Ok k) (Err (refusal_numbered number))
 
 -- the answer to the bytes s, by STBY's level and the length of the output
-unfoldable pub decoded_of : List ℕ → Bool → ℕ → Decoded
+unfoldable pub decoded_of : List ℕ → Bool → ℕ → Result Command Refusal
 decoded_of s standby room = decoded_by (first_ground (grounds s standby room)) (command_of s)
-
--- the number that a call with this answer returns
-abbrev pub number_of : Decoded → ℕ
-number_of (Accepted k) = 0
-number_of (Refused n) = n

@@ -1,4 +1,4 @@
-// Decoding a command: its bytes are a command, or are refused by number.
+// Decoding a command: its bytes are a command, or are refused.
 // Below, c is the first byte, a the second and b the third, 0 where there is none; n counts the bytes, and room those of the output.
 #![tactic(auto)]
 
@@ -6,7 +6,10 @@ ghost use Rattle.std.specs.Prelude.{◌≡◌};
 ghost use Rattle.common.specs.Grounds.{first_ground};
 ghost use Rattle.command.specs.Codes.{configures, gives_digits, sets_display, listed};
 ghost use Rattle.command.specs.Refusals.{bytes_needed, room_needed, too_short, outside, address_out, protocol_out, digits_out, grounds_by};
-ghost use Rattle.command.specs.Decode.{command_by, decoded_of, number_of};
+ghost use Rattle.command.specs.Decode.{command_by, decoded_of};
+ghost use Rattle.common.specs.Refused.{number_of};
+
+use common::Refusal;
 
 // The codes that are one command each.
 const WRITE_DIGITS: u8 = 0x40;
@@ -27,7 +30,7 @@ const STANDBY: u8 = 0xC1;
 
 const RELOAD_GUARD: u8 = 0xC2;
 
-#[derive(Clone, Copy)]
+#[derive(Clone, Copy, Debug, PartialEq, Eq)]
 pub enum Command {
     // Configuration bits; protocol and guard value.
     Configure(u8, u8),
@@ -48,12 +51,6 @@ pub enum Command {
     SetHotKeys(u8, u8),
     Standby,
     ReloadGuard,
-}
-
-#[derive(Clone, Copy)]
-pub enum Decoded {
-    Accepted(Command),
-    Refused(u32),
 }
 
 // 00xxxxxx: the configuration.
@@ -95,6 +92,7 @@ fn is_listed(c: u8) -> bool
 }
 
 // How many bytes a command has at least.
+#[tactic(auto, unfolding(crate::specs::Refusals::bytes_needed))]
 fn bytes_needed(c: u8) -> usize
     ensures { result ≡ bytes_needed c }
 {
@@ -108,6 +106,7 @@ fn bytes_needed(c: u8) -> usize
 }
 
 // How long an output its reply needs.
+#[tactic(auto, unfolding(crate::specs::Refusals::room_needed))]
 fn room_needed(c: u8) -> usize
     ensures { result ≡ room_needed c }
 {
@@ -157,35 +156,37 @@ fn is_digits_out(c: u8, b: u8) -> bool
     gives_digits(c) & is_outside(1, 5, b)
 }
 
-// The number of the first ground that holds, in the table's order, 0 where none does.
-fn refusal(c: u8, a: u8, b: u8, n: usize, standby: bool, room: usize) -> u32
-    ensures { result ≡ first_ground (grounds_by c a b n standby room) }
+// Refuses by the first ground that holds, in the table's order.
+#[tactic(auto, unfolding(crate::specs::Refusals::grounds_by))]
+fn check(c: u8, a: u8, b: u8, n: usize, standby: bool, room: usize) -> Result<(), Refusal>
+    ensures { number_of result ≡ first_ground (grounds_by c a b n standby room) }
 {
     if n == 0 {
-        return 2;
+        return Err(Refusal::EmptyCommand);
     }
     if standby {
-        return 3;
+        return Err(Refusal::InStandby);
     }
     if !is_listed(c) {
-        return 4;
+        return Err(Refusal::UnlistedCommand);
     }
     if is_too_short(c, n, room) {
-        return 5;
+        return Err(Refusal::TooShort);
     }
     if is_address_out(c, a) {
-        return 6;
+        return Err(Refusal::AddressOut);
     }
     if is_protocol_out(c, a) {
-        return 7;
+        return Err(Refusal::ProtocolOut);
     }
     if is_digits_out(c, b) {
-        return 8;
+        return Err(Refusal::DigitsOut);
     }
-    0
+    Ok(())
 }
 
 // The command that the bytes are, c being a listed one.
+#[tactic(auto, unfolding(crate::specs::Decode::command_by))]
 fn command_by(c: u8, a: u8, b: u8) -> Command
     ensures { result ≡ command_by c a b }
 {
@@ -211,27 +212,14 @@ fn command_by(c: u8, a: u8, b: u8) -> Command
     }
 }
 
-// The answer to a command's bytes, by STBY's level and the length of the output.
-pub fn decode(s: &[u8], standby: bool, room: usize) -> Decoded
+// The command that the bytes are, by STBY's level and the length of the output.
+#[tactic(auto, unfolding(crate::specs::Decode::decoded_of))]
+pub fn decode(s: &[u8], standby: bool, room: usize) -> Result<Command, Refusal>
     ensures { result ≡ decoded_of s.now standby room }
 {
     let c = common::byte_or(s, 0, 0);
     let a = common::byte_or(s, 1, 0);
     let b = common::byte_or(s, 2, 0);
-    let n = refusal(c, a, b, s.len(), standby, room);
-    if n == 0 {
-        Decoded::Accepted(command_by(c, a, b))
-    } else {
-        Decoded::Refused(n)
-    }
-}
-
-// The number that a call with this answer returns.
-pub fn number(d: Decoded) -> u32
-    ensures { result ≡ number_of d }
-{
-    match d {
-        Decoded::Accepted(_) => 0,
-        Decoded::Refused(n) => n,
-    }
+    check(c, a, b, s.len(), standby, room)?;
+    Ok(command_by(c, a, b))
 }

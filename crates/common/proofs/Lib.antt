@@ -6,3 +6,4 @@ pub mod Part
 pub mod Order
 pub mod Spell
 pub mod Each
+pub mod Refused

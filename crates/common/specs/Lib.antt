@@ -3,3 +3,4 @@ pub mod Tests
 pub mod Fill
 pub mod Bits
 pub mod Spell
+pub mod Refused

@@ -5,8 +5,8 @@ use mathlib.Core.Bool.{cond, ◌&&◌}
 use native.Mathlib.Omega.{arith}
 use borrow.Author.Tests.{eq-eqb}
 use Rattle.common.proofs.Choice.{on_true, and_both}
-use Rattle.remote.specs.declared.Received.TheVariants.{Key, NoKey}
-use Rattle.remote.specs.Frame.{complements, nec_key, rc5_key, sent_by, key_of, refusal_of}
+use Rattle.std.specs.Prelude.{Some, None}
+use Rattle.remote.specs.Frame.{complements, remote_key, nec_key, rc5_key, sent_by, key_of, refusal_of}
 
 -- NEC, first byte lowest
 abbrev pub nec_frame : ℕ → ℕ → ℕ → ℕ → ℕ
@@ -39,7 +39,7 @@ module _ (a b m : ℕ) (h : a + b ≡ 255) where
   fourth_byte : (a + 256 * b + 65_536 * m) / 16_777_216 % 256 ≡ m / 256 % 256
   fourth_byte = let e : (a + 256 * b + 65_536 * m) / 16_777_216 ≡ m / 256 = omega arith in ap (λ (x : ℕ). x % 256) e
 
-pub nec_frame_lem : (a b c d : ℕ) → a + b ≡ 255 → c + d ≡ 255 → nec_key (nec_frame a b c d) ≡ Key a c
+pub nec_frame_lem : (a b c d : ℕ) → a + b ≡ 255 → c + d ≡ 255 → nec_key (nec_frame a b c d) ≡ Some (remote_key a c)
 unfolding nec_key
 nec_frame_lem a b c d h k =
     let m = c + 256 * d in
@@ -47,16 +47,16 @@ nec_frame_lem a b c d h k =
     let q = second_byte a b m h in
     let r = third_byte a b m h ∙ low c d k in
     let s = fourth_byte a b m h ∙ high c d k in
-    (λ i. cond (complements (p i) (q i) && complements (r i) (s i)) (Key (p i) (r i)) NoKey)
+    (λ i. cond (complements (p i) (q i) && complements (r i) (s i)) (Some (remote_key (p i) (r i))) None)
     ∙ sym (on_true _ _ (and_both (complements a b) (complements c d) (eq-eqb _ _ h) (eq-eqb _ _ k)))
 
-pub rc5_frame_lem : (t a c : ℕ) → t < 2 → a < 32 → c < 64 → rc5_key (rc5_frame t a c) ≡ Key a c
+pub rc5_frame_lem : (t a c : ℕ) → t < 2 → a < 32 → c < 64 → rc5_key (rc5_frame t a c) ≡ Some (remote_key a c)
 unfolding rc5_key
 rc5_frame_lem t a c g h k =
     let f = rc5_frame t a c in
     let p : f / 64 % 32 ≡ a = omega arith in
     let q : f % 64 ≡ c = omega arith in
-    sym (on_true _ _ (eq-eqb (f / 4_096) 3 (omega arith))) ∙ (λ i. Key (p i) (q i))
+    sym (on_true _ _ (eq-eqb (f / 4_096) 3 (omega arith))) ∙ (λ i. Some (remote_key (p i) (q i)))
 
 -- protocol 0: every frame is refused by 11
 pub no_protocol : (f : ℕ) → refusal_of (key_of 0 f) ≡ 11

@@ -5,16 +5,16 @@ use mathlib.Core.Bool.{Bool, true, false, cond, ◌&&◌}
 use native.Mathlib.Omega.{arith}
 use lib.Dec.{eqb}
 use Rattle.common.proofs.Choice.{of_cond}
-use Rattle.remote.specs.declared.Received.{Received}
-use Rattle.remote.specs.declared.Received.TheVariants.{Key, NoKey}
-use Rattle.remote.specs.Frame.{NEC, RC5, complements, nec_key, rc5_key, sent_by, addressed, addressed_key, key_of}
+use Rattle.std.specs.Prelude.{Option, Some, None}
+use Rattle.remote.specs.declared.RemoteKey.{RemoteKey}
+use Rattle.remote.specs.Frame.{NEC, RC5, complements, remote_key, nec_key, rc5_key, sent_by, addressed, addressed_key, key_of}
 
 -- a key has bytes
-abbrev Bytes : Received → Type 0
-Bytes (Key a c) = (a < 256) × (c < 256)
-Bytes NoKey = Unit
+abbrev Bytes : Option RemoteKey → Type 0
+Bytes (Some k) = (k.address < 256) × (k.command < 256)
+Bytes None = Unit
 
-tested_bytes : (b : Bool) (a c : ℕ) → a < 256 → c < 256 → Bytes (cond b (Key a c) NoKey)
+tested_bytes : (b : Bool) (a c : ℕ) → a < 256 → c < 256 → Bytes (cond b (Some (remote_key a c)) None)
 tested_bytes true a c h k = (h, k)
 tested_bytes false a c h k = tt
 
@@ -31,8 +31,8 @@ rc5_bytes f = tested_bytes (eqb (f / 4_096) 3) (f / 64 % 32) (f % 64) (omega ari
 sent_bytes : (p f : ℕ) → Bytes (sent_by p f)
 unfolding sent_by
 sent_bytes p f =
-    of_cond Bytes (eqb p NEC) (nec_key f) (cond (eqb p RC5) (rc5_key f) NoKey) (λ e. nec_bytes f)
-    (λ e. of_cond Bytes (eqb p RC5) (rc5_key f) NoKey (λ d. rc5_bytes f) (λ d. tt))
+    of_cond Bytes (eqb p NEC) (nec_key f) (cond (eqb p RC5) (rc5_key f) None) (λ e. nec_bytes f)
+    (λ e. of_cond Bytes (eqb p RC5) (rc5_key f) None (λ d. rc5_bytes f) (λ d. tt))
 
 -- a key has the panel's device address, and bytes
 pub record IsAddressed (a c : ℕ) : Type 0 where
@@ -40,13 +40,13 @@ pub record IsAddressed (a c : ℕ) : Type 0 where
   pub address : a < 256
   pub command : c < 256
 
-abbrev pub Addressed : Received → Type 0
-Addressed (Key a c) = IsAddressed a c
-Addressed NoKey = Unit
+abbrev pub Addressed : Option RemoteKey → Type 0
+Addressed (Some k) = IsAddressed k.address k.command
+Addressed None = Unit
 
-all_addressed : (r : Received) → Bytes r → Addressed (addressed_key r)
-all_addressed (Key a c) h = of_cond Addressed (addressed a) (Key a c) NoKey (λ e. record { is_addressed = e; address = h.0; command = h.1 }) (λ e. tt)
-all_addressed NoKey h = tt
+all_addressed : (r : Option RemoteKey) → Bytes r → Addressed (addressed_key r)
+all_addressed (Some k) h = of_cond Addressed (addressed k.address) (Some k) None (λ e. record { is_addressed = e; address = h.0; command = h.1 }) (λ e. tt)
+all_addressed None h = tt
 
 pub key_addressed : (p f : ℕ) → Addressed (key_of p f)
 unfolding key_of
