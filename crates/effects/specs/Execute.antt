@@ -1,12 +1,13 @@
 -- Document 01, "Commands": what an accepted command makes of the state that both panel kinds share, and ground 9 of the refusal table.
-use Rattle.std.specs.Prelude.{ℕ, Bool, false, cond, List, drop}
+use Rattle.std.specs.Prelude.{ℕ, Bool, false, cond, List, drop, Result, Ok, Err}
 use Rattle.command.specs.declared.Command.{Command}
 use Rattle.command.specs.declared.Command.TheVariants.{Configure, ConfigureDigits, WriteDigits, WriteRegisters, ReadKeys, ReadRemote, ReadInterrupts, ReadRegisters, SetDisplay, SetHotKeys, Standby, ReloadGuard}
 use Rattle.controller.specs.declared.Core.{Core}
 use Rattle.controller.specs.Standby.{standby_begun}
-use Rattle.effects.specs.declared.Written.{Written}
+use Rattle.common.specs.declared.refusal.Refusal.{Refusal}
+use Rattle.common.specs.declared.refusal.Refusal.TheVariants.{InvalidCalendar}
 use Rattle.effects.specs.Configure.{configured, mask_set, guard_reloaded}
-use Rattle.effects.specs.Write.{registers_written, calendar_lost, answer}
+use Rattle.effects.specs.Write.{registers_written, calendar_lost}
 use Rattle.effects.specs.Clear.{store_cleared, remote_cleared, interrupts_cleared}
 
 -- the data of 40h and 50h: the bytes behind the command byte and the address
@@ -43,6 +44,6 @@ writes_no_calendar c (SetHotKeys low high) s = false
 writes_no_calendar c Standby s = false
 writes_no_calendar c ReloadGuard s = false
 
--- the answer of the code: the state and 0, or the state as it was and 9
-abbrev pub command_answer : Core → Command → List ℕ → Written
-command_answer c k s = cond (writes_no_calendar c k s) (answer c 9) (answer (core_executed c k s) 0)
+-- the state after the command, or the refusal
+abbrev pub command_answer : Core → Command → List ℕ → Result Core Refusal
+command_answer c k s = cond (writes_no_calendar c k s) (Err InvalidCalendar) (Ok (core_executed c k s))

@@ -1,10 +1,11 @@
 -- Document 01, "Commands": 50h, and the addresses that data touch.
-use Rattle.std.specs.Prelude.{ℕ, ◌-◌, Bool, cond, not, ◌&&◌, ◌||◌, List, leb, ltb, length}
+use Rattle.std.specs.Prelude.{ℕ, ◌-◌, Bool, cond, not, ◌&&◌, ◌||◌, List, leb, ltb, length, Result, Ok, Err}
 use Rattle.registers.specs.Names.{at, SECONDS, MINUTES, HOURS, WEEKDAY, DATE, MONTH, YEAR, WATCHDOG}
 use Rattle.registers.specs.Written.{written}
 use Rattle.registers.specs.Watchdog.{watchdog_load}
 use Rattle.controller.specs.declared.Core.{Core}
-use Rattle.effects.specs.declared.Written.{Written}
+use Rattle.common.specs.declared.refusal.Refusal.{Refusal}
+use Rattle.common.specs.declared.refusal.Refusal.TheVariants.{InvalidCalendar}
 use Rattle.timekeeper.specs.Clock.{valid_calendar}
 use Rattle.controller.specs.State.{with_rtc, rtc, sixteenths}
 
@@ -37,9 +38,6 @@ registers_written a bytes c = registers_set a (length bytes) (written c.rtc.regi
 abbrev pub calendar_lost : ℕ → List ℕ → Core → Bool
 calendar_lost a bytes c = not (valid_calendar (written c.rtc.registers a bytes))
 
--- the answer of the code: the state and 0, or the state as it was and 9
-abbrev pub answer : Core → ℕ → Written
-answer c n = record { core = c; refusal = n }
-
-unfoldable pub registers_answer : ℕ → List ℕ → Core → Written
-registers_answer a bytes c = cond (calendar_lost a bytes c) (answer c 9) (answer (registers_written a bytes c) 0)
+-- the state written to, or the refusal
+unfoldable pub registers_answer : ℕ → List ℕ → Core → Result Core Refusal
+registers_answer a bytes c = cond (calendar_lost a bytes c) (Err InvalidCalendar) (Ok (registers_written a bytes c))

@@ -1,32 +1,23 @@
 // What commands make of the state that both panel kinds share.
 #![tactic(auto)]
 
-ghost use Rattle.std.specs.Prelude.{◌≡◌, cond};
+ghost use Rattle.std.specs.Prelude.{◌≡◌};
 ghost use Rattle.effects.specs.Configure.{configured, mask_set, guard_reloaded};
-ghost use Rattle.effects.specs.Write.{touched, calendar_touched, answer, registers_answer};
+ghost use Rattle.effects.specs.Write.{touched, calendar_touched, registers_set, registers_answer};
 ghost use Rattle.effects.specs.Clear.{store_cleared, remote_cleared, interrupts_cleared};
 ghost use Rattle.effects.specs.Execute.{data_of, command_answer};
 
 use command::Command;
+use common::Refusal;
 use controller::{Core, Remote, Setup};
 use registers::{DATE, HOURS, MINUTES, MONTH, SECONDS, WATCHDOG, WEEKDAY, YEAR};
 use units::{Seconds, Sixteenths};
-
-// What a command leaves: the state, and the number 0 or 9.
-#[derive(Clone, Copy)]
-pub struct Written {
-    pub core: Core,
-    pub refusal: u32,
-}
 
 // Whether one of n data bytes from address a on goes to address x.
 pub fn touches(a: usize, n: usize, x: usize) -> bool
     ensures { result ≡ touched a n x }
 {
-    if x < a {
-        return false;
-    }
-    x - a < n
+    a <= x && x - a < n
 }
 
 // Whether one of them goes to a calendar register 01h..07h.
@@ -42,43 +33,29 @@ fn touches_calendar(a: usize, n: usize) -> bool
         | touches(a, n, YEAR)
 }
 
-// A count that is replaced where its registers were touched.
-fn replaced(touched: bool, new: Sixteenths, old: Sixteenths) -> Sixteenths
-    ensures { result ≡ cond touched new old }
-{
-    if touched { new } else { old }
-}
-
 // 00 group: the setup is set and the guard loads 16 times its value.
+#[tactic(auto, unfolding(crate::specs::Configure::configured))]
 fn configure(mut c: Core, configuration: u8, b: u8) -> Core
     ensures { result ≡ configured configuration b c }
 {
     let value = Seconds((b % 16) as u32);
-    let load = units::in_sixteenths(value);
-    let setup = Setup {
+    c.setup = Setup {
         configuration,
         protocol: b / 16,
         guardvalue: value,
     };
-    let mut power = c.power;
-    power.guard = load;
-    c.setup = setup;
-    c.power = power;
+    c.power.guard = units::in_sixteenths(value);
     c
 }
 
 // C2h: a running guard loads again.
+#[tactic(auto, unfolding(crate::specs::Configure::guard_reloaded))]
 fn reload_guard(mut c: Core) -> Core
     ensures { result ≡ guard_reloaded c }
 {
-    if c.power.guard.0 == 0 {
-        return c;
+    if c.power.guard.0 != 0 {
+        c.power.guard = units::in_sixteenths(c.setup.guardvalue);
     }
-    let value = c.setup.guardvalue;
-    let load = units::in_sixteenths(value);
-    let mut power = c.power;
-    power.guard = load;
-    c.power = power;
     c
 }
 
@@ -86,9 +63,7 @@ fn reload_guard(mut c: Core) -> Core
 fn clear_store(mut c: Core) -> Core
     ensures { result ≡ store_cleared c }
 {
-    let mut keys = c.keys;
-    keys.store = 0;
-    c.keys = keys;
+    c.keys.store = 0;
     c
 }
 
@@ -96,12 +71,11 @@ fn clear_store(mut c: Core) -> Core
 fn clear_remote(mut c: Core) -> Core
     ensures { result ≡ remote_cleared c }
 {
-    let none = Remote {
+    c.remote = Remote {
         fresh: 0,
         address: 0,
         command: 0,
     };
-    c.remote = none;
     c
 }
 
@@ -109,9 +83,7 @@ fn clear_remote(mut c: Core) -> Core
 fn clear_interrupts(mut c: Core) -> Core
     ensures { result ≡ interrupts_cleared c }
 {
-    let mut rtc = c.rtc;
-    rtc.flags = 0;
-    c.rtc = rtc;
+    c.rtc.flags = 0;
     c.interrupt = 0;
     c
 }
@@ -120,69 +92,55 @@ fn clear_interrupts(mut c: Core) -> Core
 fn set_mask(mut c: Core, low: u8, high: u8) -> Core
     ensures { result ≡ mask_set low high c }
 {
-    let mut keys = c.keys;
-    keys.mask = (low as u32) + 256 * (high as u32);
-    c.keys = keys;
+    c.keys.mask = (low as u32) + 256 * (high as u32);
+    c
+}
+
+// The state with written registers, where n data bytes went in from address a on.
+fn set_registers(mut c: Core, a: usize, n: usize, registers: [u8; 16]) -> Core
+    ensures { result ≡ registers_set a n registers c }
+{
+    c.rtc.registers = registers;
+    if touches_calendar(a, n) {
+        c.rtc.sixteenths = Sixteenths(0);
+    }
+    if touches(a, n, WATCHDOG) {
+        c.rtc.watchdog = registers::watchdog_load(registers[WATCHDOG]);
+    }
     c
 }
 
 // 50h: data go to the registers from address a on, all or nothing.
-fn write_registers(mut c: Core, a: usize, bytes: &[u8]) -> Written
+#[tactic(auto, unfolding(crate::specs::Write::registers_answer, crate::specs::Write::registers_written, timekeeper::specs::Commit::committed))]
+fn write_registers(c: Core, a: usize, bytes: &[u8]) -> Result<Core, Refusal>
     ensures { result ≡ registers_answer a bytes.now c }
 {
-    let mut rtc = c.rtc;
-    let old = rtc.registers;
-    let committed = timekeeper::commit(old, a, bytes);
-    if committed.refusal != 0 {
-        return Written {
-            core: c,
-            refusal: committed.refusal,
-        };
-    }
-    let new = committed.registers;
-    let load = registers::watchdog_load(new[WATCHDOG]);
-    let none = Sixteenths(0);
-    let sixteenths = rtc.sixteenths;
-    let watchdog = rtc.watchdog;
-    rtc.registers = new;
-    rtc.sixteenths = replaced(touches_calendar(a, bytes.len()), none, sixteenths);
-    rtc.watchdog = replaced(touches(a, bytes.len(), WATCHDOG), load, watchdog);
-    c.rtc = rtc;
-    Written {
-        core: c,
-        refusal: 0,
-    }
+    let registers = timekeeper::commit(c.rtc.registers, a, bytes)?;
+    Ok(set_registers(c, a, bytes.len(), registers))
 }
 
 // The data of 40h and 50h: the bytes behind the command byte and the address.
 pub fn data_of(s: &[u8]) -> &[u8]
     ensures { result.now ≡ data_of s.now }
 {
-    let from = common::shorter(2, s.len());
-    &s[from..]
+    &s[s.len().min(2)..]
 }
 
-// An accepted command.
-fn accept(core: Core) -> Written
-    ensures { result ≡ answer core 0 }
-{
-    Written { core, refusal: 0 }
-}
-
-// The state after an accepted command, whose bytes are s; a write that leaves no valid calendar is 9.
-pub fn execute(c: Core, k: Command, s: &[u8]) -> Written
+// The state after an accepted command, whose bytes are s; a write that leaves no valid calendar is refused.
+#[tactic(auto, unfolding(crate::specs::Write::registers_answer))]
+pub fn execute(c: Core, k: Command, s: &[u8]) -> Result<Core, Refusal>
     ensures { result ≡ command_answer c k s.now }
 {
     match k {
-        Command::Configure(configuration, b) => accept(configure(c, configuration, b)),
-        Command::ConfigureDigits(configuration, b, _) => accept(configure(c, configuration, b)),
+        Command::Configure(configuration, b) => Ok(configure(c, configuration, b)),
+        Command::ConfigureDigits(configuration, b, _) => Ok(configure(c, configuration, b)),
         Command::WriteRegisters(a) => write_registers(c, a as usize, data_of(s)),
-        Command::ReadKeys => accept(clear_store(c)),
-        Command::ReadRemote => accept(clear_remote(c)),
-        Command::ReadInterrupts => accept(clear_interrupts(c)),
-        Command::SetHotKeys(low, high) => accept(set_mask(c, low, high)),
-        Command::Standby => accept(c.begin_standby()),
-        Command::ReloadGuard => accept(reload_guard(c)),
-        _ => accept(c),
+        Command::ReadKeys => Ok(clear_store(c)),
+        Command::ReadRemote => Ok(clear_remote(c)),
+        Command::ReadInterrupts => Ok(clear_interrupts(c)),
+        Command::SetHotKeys(low, high) => Ok(set_mask(c, low, high)),
+        Command::Standby => Ok(c.begin_standby()),
+        Command::ReloadGuard => Ok(reload_guard(c)),
+        _ => Ok(c),
     }
 }

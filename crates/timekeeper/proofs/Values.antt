@@ -18,7 +18,6 @@ use Rattle.registers.specs.Written.{written}
 use Rattle.timekeeper.specs.Bcd.{digits, bcd, decimal_tests, decimal}
 use Rattle.timekeeper.specs.Clock.{field_bytes, clock_of, calendar_tests, last_date, valid_calendar, under_b7, under_b7_b6, with_clock}
 use Rattle.timekeeper.specs.Alarm.{field_of, alarm_of, rpt1, rpt2, rpt3, rpt4, rpt5, rpt6}
-use Rattle.timekeeper.specs.Commit.{accepted, refused, committed}
 
 pub clock_from : (rs : List ℕ) (century year month date weekday hour minute second : ℕ) → century ≡ at rs MONTH / 64 → year ≡ digits (at rs YEAR) → month ≡ digits (at rs MONTH % 64)
     → date ≡ digits (at rs DATE) → weekday ≡ digits (at rs WEEKDAY) → hour ≡ digits (at rs HOURS % 64) → minute ≡ digits (at rs MINUTES) → second ≡ digits (at rs SECONDS % 128)
@@ -94,12 +93,3 @@ pub alarm_from : (rs : List ℕ) (second minute hour date month weekday : Field)
     → record { second = second; minute = minute; hour = hour; date = date; month = month; weekday = weekday } ≡ alarm_of rs
 unfolding alarm_of
 alarm_from rs s n h d m w es en eh ed em ew = λ i. record { second = es i; minute = en i; hour = eh i; date = ed i; month = em i; weekday = ew i }
-
-module _ (rs : List ℕ) (a : ℕ) (bytes next : List ℕ) (v : Bool) (en : next ≡ written rs a bytes) (ev : v ≡ valid_calendar next) where
-  pub commit_accepted : v ≡ true → accepted next ≡ committed rs a bytes
-  unfolding committed
-  commit_accepted e = ap accepted en ∙ on_true (accepted (written rs a bytes)) (refused rs) (ap valid_calendar (sym en) ∙ sym ev ∙ e)
-
-  pub commit_refused : v ≡ false → refused rs ≡ committed rs a bytes
-  unfolding committed
-  commit_refused e = on_false (accepted (written rs a bytes)) (refused rs) (ap valid_calendar (sym en) ∙ sym ev ∙ e)

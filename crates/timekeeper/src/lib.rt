@@ -10,6 +10,7 @@ ghost use Rattle.timekeeper.specs.Commit.{committed};
 
 use alarm::{Alarm, Field};
 use calendar::Clock;
+use common::Refusal;
 use registers::{
     ALARM_DATE, ALARM_HOUR, ALARM_MINUTE, ALARM_MONTH, ALARM_SECOND, ALARM_WEEKDAY, CALIBRATION,
     DATE, HOURS, MINUTES, MONTH, RESERVED, SECONDS, WATCHDOG, WEEKDAY, YEAR,
@@ -27,13 +28,6 @@ const RPT4: u8 = 128;
 const RPT5: u8 = 64;
 
 const RPT6: u8 = 64;
-
-// What a write to the registers leaves, and its refusal number.
-#[derive(Clone, Copy)]
-pub struct Committed {
-    pub registers: [u8; 16],
-    pub refusal: u32,
-}
 
 // The number that a byte's two digits write.
 fn number(b: u8) -> u32
@@ -203,18 +197,14 @@ pub fn alarm_of(registers: [u8; 16]) -> Alarm
 }
 
 // Command 50h: bytes from address a on, all or nothing, judged on the finished registers.
-pub fn commit(registers: [u8; 16], a: usize, bytes: &[u8]) -> Committed
+#[tactic(auto, unfolding(crate::specs::Commit::committed))]
+pub fn commit(registers: [u8; 16], a: usize, bytes: &[u8]) -> Result<[u8; 16], Refusal>
     ensures { result ≡ committed registers a bytes.now }
 {
     let next = registers::write(registers, a, bytes);
     if valid(next) {
-        return Committed {
-            registers: next,
-            refusal: 0,
-        };
-    }
-    Committed {
-        registers,
-        refusal: 9,
+        Ok(next)
+    } else {
+        Err(Refusal::InvalidCalendar)
     }
 }
