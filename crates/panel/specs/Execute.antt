@@ -1,11 +1,12 @@
 -- Document 01, "Commands": what an accepted command makes of the panel, whose bytes are s.
-use Rattle.std.specs.Prelude.{ℕ, cond, List}
+use Rattle.std.specs.Prelude.{ℕ, cond, List, Result, Ok, Err}
 use Rattle.command.specs.declared.Command.{Command}
 use Rattle.command.specs.declared.Command.TheVariants.{Configure, ConfigureDigits, WriteDigits, WriteRegisters, ReadKeys, ReadRemote, ReadInterrupts, ReadRegisters, SetDisplay, SetHotKeys, Standby, ReloadGuard}
 use Rattle.display.specs.declared.Display.{Display}
 use Rattle.effects.specs.Execute.{data_of, core_executed, writes_no_calendar}
 use Rattle.panel.specs.declared.Panel.{Panel}
-use Rattle.panel.specs.declared.Served.{Served}
+use Rattle.common.specs.declared.refusal.Refusal.{Refusal}
+use Rattle.common.specs.declared.refusal.Refusal.TheVariants.{InvalidCalendar}
 use Rattle.panel.specs.Display.{digits_set, display_set, digits_written}
 
 -- the display after the command k
@@ -27,9 +28,6 @@ display_executed d ReloadGuard s = d
 abbrev pub executed : Panel → Command → List ℕ → Panel
 executed p k s = record { core = core_executed p.core k s; display = display_executed p.display k s }
 
--- the answer of the code: the panel and 0, or the panel as it was and 9
-abbrev pub served_as : Panel → ℕ → Served
-served_as p n = record { panel = p; refusal = n }
-
-abbrev pub served : Panel → Command → List ℕ → Served
-served p k s = cond (writes_no_calendar p.core k s) (served_as p 9) (served_as (executed p k s) 0)
+-- the panel after the command, or the refusal
+abbrev pub served : Panel → Command → List ℕ → Result Panel Refusal
+served p k s = cond (writes_no_calendar p.core k s) (Err InvalidCalendar) (Ok (executed p k s))

@@ -14,6 +14,7 @@ ghost use Rattle.controller.specs.Remote.{keyed};
 ghost use Rattle.controller.specs.Pins.{ready_set, wake_up_set};
 
 use command::Command;
+use common::Refusal;
 use controller::Core;
 use display::Display;
 
@@ -21,13 +22,6 @@ use display::Display;
 pub struct Panel {
     pub core: Core,
     pub display: Display,
-}
-
-// What a command leaves: the panel, and the number 0 or 9.
-#[derive(Clone, Copy)]
-pub struct Served {
-    pub panel: Panel,
-    pub refusal: u32,
 }
 
 // The digit byte at address x after data from address a on.
@@ -62,6 +56,7 @@ fn write_digits(mut d: Display, a: u8, bytes: &[u8]) -> Display
 }
 
 // The digits in use; if they change the display goes off.
+#[tactic(auto, unfolding(crate::specs::Display::digits_set))]
 fn set_digits(mut d: Display, n: u8) -> Display
     ensures { result ≡ digits_set n d }
 {
@@ -188,17 +183,13 @@ impl Panel {
         self.with_core(core.set_wake_up(level))
     }
 
-    // The panel after an accepted command, whose bytes are s; a write that leaves no valid calendar is 9.
-    pub fn execute(self, k: Command, s: &[u8]) -> Served
+    // The panel after an accepted command, whose bytes are s; a write that leaves no valid calendar is refused.
+    pub fn execute(self, k: Command, s: &[u8]) -> Result<Panel, Refusal>
         ensures { result ≡ served self k s.now }
     {
-        let left = effects::execute(self.core, k, s);
+        let core = effects::execute(self.core, k, s)?;
         let display = execute_display(self.display, k, s);
-        let core = left.core;
-        Served {
-            panel: Panel { core, display },
-            refusal: left.refusal,
-        }
+        Ok(Panel { core, display })
     }
 
     // Writes the reply of a reading command to the output; other commands leave it as it was.
