@@ -1,2 +1,2 @@
 pub mod Show
-pub mod Serve
+pub mod Update

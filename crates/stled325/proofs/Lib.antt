@@ -1,3 +1,3 @@
 pub mod Decided
 pub mod Calls
-mod Commands
+pub mod Commands

@@ -1,9 +1,8 @@
 -- The calls but the command (document 01, "Events", "Show", "Lines"), each from the image and the output that it is given.
-use Rattle.std.specs.Prelude.{ℕ, Bool, true, false, not, List, [], ◌∷◌, eqb, ltb, length}
+use Rattle.std.specs.Prelude.{ℕ, Bool, true, false, not, List, [], ◌∷◌, eqb, ltb, length, Option, Some, None}
 use Rattle.common.specs.Grounds.{Ground, ground}
 use Rattle.calendar.specs.Clock.{limit}
-use Rattle.remote.specs.declared.Received.{Received}
-use Rattle.remote.specs.declared.Received.TheVariants.{Key, NoKey}
+use Rattle.remote.specs.declared.RemoteKey.{RemoteKey}
 use Rattle.remote.specs.Frame.{key_of}
 use Rattle.controller.specs.declared.Core.{Core}
 use Rattle.controller.specs.Tick.{ticked}
@@ -58,16 +57,16 @@ wake_up_call l level = event_call (λ c. wake_up_set c (high level)) l
 -- ---- Remote frames
 
 -- the key that the frame is, in the set protocol
-abbrev pub received : List ℕ → ℕ → Received
+abbrev pub received : List ℕ → ℕ → Option RemoteKey
 received l frame = key_of (decoded l).core.setup.protocol frame
 
-abbrev pub is_no_key : Received → Bool
-is_no_key (Key address command) = false
-is_no_key NoKey = true
+abbrev pub is_no_key : Option RemoteKey → Bool
+is_no_key (Some k) = false
+is_no_key None = true
 
-abbrev pub keyed_by : Received → Core → Core
-keyed_by (Key address command) c = keyed c address command
-keyed_by NoKey c = c
+abbrev pub keyed_by : Option RemoteKey → Core → Core
+keyed_by (Some k) c = keyed c k.address k.command
+keyed_by None c = c
 
 abbrev pub frame_grounds : List ℕ → ℕ → List Ground
 frame_grounds l frame = invalid l ∷ ground 11 (is_no_key (received l frame)) ∷ []

@@ -1,8 +1,12 @@
 -- A valid image holds a sound state and is that state's image; the image of a sound state is valid. Assumes nothing.
 use Prim.Native.Nat.{ℕ, ◌+◌, ◌^◌, ◌<◌}
 use native.Mathlib.Omega.{arith}
-use mathlib.Core.Path.{◌≡◌, refl, ap, ◌∙◌}
-use mathlib.Core.Bool.{Bool, true, false, not, ◌||◌}
+use mathlib.Core.Path.{◌≡◌, refl, sym, ap, subst, ◌∙◌}
+use mathlib.Core.Bool.{Bool, true, false, not, cond, ◌||◌, true≢false}
+use Rattle.std.specs.Prelude.{Result, Ok, Err, is_ok}
+use Rattle.std.specs.Result.{result_unwrap_or}
+use Rattle.common.specs.declared.refusal.Refusal.{Refusal}
+use Rattle.common.specs.declared.refusal.Refusal.TheVariants.{InvalidImage}
 use mathlib.Core.List.{List}
 use lib.ListN.{length, get_or, replicate}
 use lib.Dec.{eqb}
@@ -20,7 +24,7 @@ use Rattle.image.specs.Sound.{SoundDisplay, SoundPanel}
 use Rattle.image.proofs.Numbers.{pins_small}
 use Rattle.image.proofs.Bytes.{spelt_byte}
 use Rattle.image.proofs.Laws.{encode_decode_whole, decode_encode}
-use Rattle.validity.specs.Valid.{unnamed_tests, range_tests, state_tests, valid_tests, is_valid}
+use Rattle.validity.specs.Valid.{unnamed_tests, range_tests, state_tests, valid_tests, is_valid, panel_read}
 use Rattle.validity.proofs.Zero.{zeros}
 
 -- ---- What the tests say
@@ -116,6 +120,18 @@ module _ (l : List ℕ) (h : is_valid l ≡ true) where
     encode_decode =
         encode_decode_whole l
         record { sized = valid_length; bytes = small; pins = ltb-true _ _ (unnamed 1); setup = ltb-true _ _ (unnamed 4); zeros = tail }
+
+-- what is read is the panel of a valid image
+pub read_valid : (l : List ℕ) (p : Panel) → ◌≡◌ {A = Result Panel Refusal} (Ok p) (panel_read l) → (is_valid l ≡ true) × (p ≡ decoded l)
+read_valid l p e = by (is_valid l) refl e
+  where
+    by : (b : Bool) → is_valid l ≡ b → ◌≡◌ {A = Result Panel Refusal} (Ok p) (cond b (Ok (decoded l)) (Err InvalidImage)) → (is_valid l ≡ true) × (p ≡ decoded l)
+    by true v e = (v, ap (λ (r : Result Panel Refusal). result_unwrap_or r p) e)
+    by false v e = absurd (true≢false (ap (λ (r : Result Panel Refusal). is_ok r) e))
+
+-- the panel of a copied image
+pub read_sound : {l a : List ℕ} {p : Panel} → is_valid l ≡ true → a ≡ l → p ≡ decoded a → Bytes l → SoundPanel p
+read_sound h e f small = subst SoundPanel (sym (f ∙ ap decoded e)) (sound _ h small)
 
 -- ---- The image of a sound state is valid
 

@@ -1,6 +1,8 @@
 -- Which images are valid (document 01, "The image": "valid exactly if").
-use Rattle.std.specs.Prelude.{ℕ, ◌/◌, ◌%◌, Bool, not, ◌||◌, List, [], ◌∷◌, length, eqb, ltb, leb}
+use Rattle.std.specs.Prelude.{ℕ, ◌/◌, ◌%◌, Bool, not, ◌||◌, List, [], ◌∷◌, length, eqb, ltb, leb, cond, Result, Ok, Err}
 use Rattle.common.specs.Tests.{conj}
+use Rattle.common.specs.declared.refusal.Refusal.{Refusal}
+use Rattle.common.specs.declared.refusal.Refusal.TheVariants.{InvalidImage}
 use Rattle.common.specs.Spell.{spell}
 use Rattle.registers.specs.Names.{at, WATCHDOG}
 use Rattle.registers.specs.Written.{reserved_clear}
@@ -79,3 +81,7 @@ valid_tests l = eqb (length l) image_len ∷ valid_calendar (registers_in l) ∷
 
 unfoldable pub is_valid : List ℕ → Bool
 is_valid l = conj (valid_tests l)
+
+-- the panel in a valid image, or the refusal
+abbrev pub panel_read : List ℕ → Result Panel Refusal
+panel_read l = cond (is_valid l) (Ok (decoded l)) (Err InvalidImage)

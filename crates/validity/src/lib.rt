@@ -1,10 +1,12 @@
 // Which images are valid.
 #![tactic(auto)]
 
-ghost use Rattle.std.specs.Prelude.{◌≡◌};
+ghost use Rattle.std.specs.Prelude.{◌≡◌, IfOk};
 ghost use Rattle.common.specs.Tests.{conj};
-ghost use Rattle.validity.specs.Valid.{unnamed_tests, tail_tests, range_tests, guard_within, watchdog_within, state_tests, is_valid};
+ghost use Rattle.validity.specs.Valid.{unnamed_tests, tail_tests, range_tests, guard_within, watchdog_within, state_tests, is_valid, panel_read};
+ghost use Rattle.image.specs.Sound.{SoundPanel};
 
+use common::Refusal;
 use controller::Core;
 use image::{CONFIGURATION, DISPLAY_CONTROL, FLAGS, IMAGE_LEN, PINS, SETUP, UNUSED};
 use panel::Panel;
@@ -109,4 +111,17 @@ pub fn is_valid(image: &[u8]) -> bool
     }
     let a = image::load(image);
     unnamed_clear(a) & tail_clear(a) & is_sound(image::decode(a))
+}
+
+// The panel in a valid image.
+#[tactic(auto, using(crate::proofs::Laws::valid_length, crate::proofs::Laws::read_sound))]
+pub fn read(image: &[u8]) -> Result<Panel, Refusal>
+    ensures value { result ≡ panel_read image.now }
+    ensures sound { IfOk result SoundPanel }
+{
+    if is_valid(image) {
+        Ok(image::decode(image::load(image)))
+    } else {
+        Err(Refusal::InvalidImage)
+    }
 }

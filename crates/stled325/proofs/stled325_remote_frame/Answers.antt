@@ -1,16 +1,7 @@
 -- `stled325::stled325_remote_frame` meets its contract. Assumes nothing.
-use Rattle.stled325.proofs.Calls.{sized, call_refused, frame_refused, frame_done}
-use borrow.Author.Rules.{rules}
+use Rattle.stled325.proofs.Calls.{frame_stored}
 use Rattle.stled325.proofs.stled325_remote_frame.Goals as goal
 
-pub returns-then-not-is_valid : goal.returns-then-not-is_valid
-returns-then-not-is_valid c = search (rules, call_refused)
-
-pub load-requires : goal.load-requires
-load-requires c = search (rules, sized)
-
-pub returns-in_default : goal.returns-in_default
-returns-in_default c = search (rules, frame_refused)
-
 pub returns : goal.returns
-returns c = search (rules, frame_done)
+returns c =
+    frame_stored _ _ c.in_ok-panel.ensures.value _ _ _ c.key.ensures c.in_ok-key.ensures.ok_part _ _ c.receive_key.ensures c.store.ensures
