@@ -9,8 +9,8 @@ use lib.Dec.{eqb}
 use lib.ListN.{length}
 use borrow.Author.Tests.{eqb-true, eqb-false, eq-eqb, not-false}
 use Rattle.common.proofs.Choice.{of_cond, by_cases, not_other}
-use Rattle.remote.specs.declared.Received.{Received}
-use Rattle.remote.specs.declared.Received.TheVariants.{Key, NoKey}
+use Rattle.std.specs.Prelude.{Option, Some, None}
+use Rattle.remote.specs.declared.RemoteKey.{RemoteKey}
 use Rattle.remote.specs.Frame.{key_of}
 use Rattle.command.specs.Codes.{WRITE_REGISTERS}
 use Rattle.command.specs.Decode.{command_of}
@@ -63,9 +63,9 @@ module _ (rs : List ℕ) (k : ℕ) where
 
 -- ---- One event
 
-rtc_keyed_by : (c : Core) (r : Received) → (keyed_by r c).rtc ≡ c.rtc
-rtc_keyed_by c (Key a k) = rtc_keyed c a k
-rtc_keyed_by c NoKey = refl
+rtc_keyed_by : (c : Core) (r : Option RemoteKey) → (keyed_by r c).rtc ≡ c.rtc
+rtc_keyed_by c (Some k) = rtc_keyed c k.address k.command
+rtc_keyed_by c None = refl
 
 module _ {l : List ℕ} (v : ValidImage l) (k : ℕ) where
   abbrev c : Core

@@ -8,8 +8,8 @@ use mathlib.Core.List.{List}
 use lib.Dec.{eqb}
 use borrow.Author.Tests.{eqb-true, eqb-false, not-false}
 use Rattle.common.proofs.Choice.{by_cases}
-use Rattle.remote.specs.declared.Received.{Received}
-use Rattle.remote.specs.declared.Received.TheVariants.{Key, NoKey}
+use Rattle.std.specs.Prelude.{Option, Some, None}
+use Rattle.remote.specs.declared.RemoteKey.{RemoteKey}
 use Rattle.remote.specs.Frame.{key_of}
 use Rattle.command.specs.Decode.{command_of}
 use Rattle.command.specs.Refusals.{byte}
@@ -45,9 +45,9 @@ lowered : (b : Bool) → false ≡ cond b false false
 lowered true = refl
 lowered false = refl
 
-stby_keyed_by : (c : Core) (r : Received) → is_no_key r ≡ false → (keyed_by r c).power.stby ≡ cond c.power.stby (not (remote_counts c)) false
-stby_keyed_by c (Key a k) n = stby_keyed c a k ∙ ended c.power.stby (remote_counts c)
-stby_keyed_by c NoKey n = absurd (true≢false n)
+stby_keyed_by : (c : Core) (r : Option RemoteKey) → is_no_key r ≡ false → (keyed_by r c).power.stby ≡ cond c.power.stby (not (remote_counts c)) false
+stby_keyed_by c (Some k) n = stby_keyed c k.address k.command ∙ ended c.power.stby (remote_counts c)
+stby_keyed_by c None n = absurd (true≢false n)
 
 abbrev stby_of : Panel → Bool
 stby_of p = p.core.power.stby

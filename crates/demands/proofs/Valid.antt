@@ -9,8 +9,8 @@ use lib.ListN.{length}
 use borrow.Author.Tests.{eqb-true, eqb-false, eq-eqb, not-false}
 use Rattle.common.specs.Grounds.{Ground, ground, NoneHolds}
 use Rattle.common.proofs.Choice.{by_cases}
-use Rattle.remote.specs.declared.Received.{Received}
-use Rattle.remote.specs.declared.Received.TheVariants.{Key, NoKey}
+use Rattle.std.specs.Prelude.{Option, Some, None}
+use Rattle.remote.specs.declared.RemoteKey.{RemoteKey}
 use Rattle.remote.specs.Frame.{key_of}
 use Rattle.remote.proofs.Keys.{Addressed, key_addressed}
 use Rattle.command.specs.Refusals.{grounds}
@@ -94,9 +94,10 @@ module _ (s l o : List ℕ) (a : (after (command s) l o).number ≡ 0) where
 
 -- ---- Sound panels
 
-sound_keyed_by : {c : Core} → Sound 16 c → (r : Received) → Addressed r → Sound 16 (keyed_by r c)
-sound_keyed_by {c} h (Key a k) u = subst (λ (x : ℕ). Sound 16 (keyed c x k)) (sym (eqb-true a 0 u.is_addressed)) (sound_keyed h k u.command)
-sound_keyed_by h NoKey u = h
+sound_keyed_by : {c : Core} → Sound 16 c → (r : Option RemoteKey) → Addressed r → Sound 16 (keyed_by r c)
+sound_keyed_by {c} h (Some k) u =
+    subst (λ (x : ℕ). Sound 16 (keyed c x k.command)) (sym (eqb-true k.address 0 u.is_addressed)) (sound_keyed h k.command u.command)
+sound_keyed_by h None u = h
 
 module _ {l : List ℕ} (v : ValidImage l) where
   abbrev h : SoundPanel (decoded l)

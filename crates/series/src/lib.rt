@@ -4,24 +4,14 @@
 ghost use Rattle.std.specs.Prelude.{◌≡◌, set};
 ghost use Rattle.series.specs.Demand.{Demand3};
 
-// Writes a number to its place, if there is one.
-fn note(answers: &mut [u32], i: usize, number: u32)
-    ensures { answers.new ≡ set answers.old i number }
-{
-    if i < answers.len() {
-        answers[i] = number;
-    }
-}
-
 // Calls supply return after each n of ns in turn, and writes each call's number to its place in answers, as far as answers has places.
 pub fn supply_series(image: &mut [u8], ns: &[u32], answers: &mut [u32])
     ensures { Demand3 image.old ns.now answers.old image.new answers.new }
 {
-    let mut i = 0;
-    while i < ns.len() {
-        let n = ns[i];
-        let number = stled325::stled325_supply_return(image, n);
-        note(answers, i, number);
-        i += 1;
+    for (i, &n) in ns.iter().enumerate() {
+        let number = common::number(stled325::stled325_supply_return(image, n));
+        if let Some(answer) = answers.get_mut(i) {
+            *answer = number;
+        }
     }
 }

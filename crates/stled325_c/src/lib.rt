@@ -1,4 +1,4 @@
-// The calls exported to C: each is the library's call of its name, with the same promise.
+// The calls exported to C: each is the library's call of its name, with the same promise, and returns the number of its answer.
 #![tactic(auto)]
 
 ghost use Rattle.std.specs.Prelude.{◌≡◌, []};
@@ -10,68 +10,68 @@ ghost use Rattle.stled325.specs.Command.{command_call};
 pub extern "C" fn stled325_power_up(image: &mut [u8]) -> u32
     ensures { outcome result image.new [] ≡ power_up_call image.old }
 {
-    stled325::stled325_power_up(image)
+    common::number(stled325::stled325_power_up(image))
 }
 
 #[unsafe(no_mangle)]
 pub extern "C" fn stled325_tick(image: &mut [u8]) -> u32
     ensures { outcome result image.new [] ≡ tick_call image.old }
 {
-    stled325::stled325_tick(image)
+    common::number(stled325::stled325_tick(image))
 }
 
 #[unsafe(no_mangle)]
 pub extern "C" fn stled325_key_sample(image: &mut [u8], sample: u16) -> u32
     ensures { outcome result image.new [] ≡ sample_call image.old sample }
 {
-    stled325::stled325_key_sample(image, sample)
+    common::number(stled325::stled325_key_sample(image, sample))
 }
 
 #[unsafe(no_mangle)]
 pub extern "C" fn stled325_ready(image: &mut [u8], level: u32) -> u32
     ensures { outcome result image.new [] ≡ ready_call image.old level }
 {
-    stled325::stled325_ready(image, level)
+    common::number(stled325::stled325_ready(image, level))
 }
 
 #[unsafe(no_mangle)]
 pub extern "C" fn stled325_wake_up(image: &mut [u8], level: u32) -> u32
     ensures { outcome result image.new [] ≡ wake_up_call image.old level }
 {
-    stled325::stled325_wake_up(image, level)
+    common::number(stled325::stled325_wake_up(image, level))
 }
 
 #[unsafe(no_mangle)]
 pub extern "C" fn stled325_remote_frame(image: &mut [u8], frame: u32) -> u32
     ensures { outcome result image.new [] ≡ frame_call image.old frame }
 {
-    stled325::stled325_remote_frame(image, frame)
+    common::number(stled325::stled325_remote_frame(image, frame))
 }
 
 #[unsafe(no_mangle)]
 pub extern "C" fn stled325_command(image: &mut [u8], bytes: &[u8], out: &mut [u8]) -> u32
     ensures { outcome result image.new out.new ≡ command_call image.old bytes.now out.old }
 {
-    stled325::stled325_command(image, bytes, out)
+    common::number(stled325::stled325_command(image, bytes, out))
 }
 
 #[unsafe(no_mangle)]
 pub extern "C" fn stled325_supply_return(image: &mut [u8], seconds: u32) -> u32
     ensures { outcome result image.new [] ≡ supply_return_call image.old seconds }
 {
-    stled325::stled325_supply_return(image, seconds)
+    common::number(stled325::stled325_supply_return(image, seconds))
 }
 
 #[unsafe(no_mangle)]
 pub extern "C" fn stled325_show(image: &[u8], digits: &mut [u8]) -> u32
     ensures { outcome result image.now digits.new ≡ show_call image.now digits.old }
 {
-    stled325::stled325_show(image, digits)
+    common::number(stled325::stled325_show(image, digits))
 }
 
 #[unsafe(no_mangle)]
 pub extern "C" fn stled325_lines(image: &[u8], lines: &mut [u8]) -> u32
     ensures { outcome result image.now lines.new ≡ lines_call image.now lines.old }
 {
-    stled325::stled325_lines(image, lines)
+    common::number(stled325::stled325_lines(image, lines))
 }
