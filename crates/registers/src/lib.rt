@@ -118,29 +118,14 @@ pub fn reserved_clear(registers: [u8; 16]) -> bool
         & (registers[ALARM_WEEKDAY] % 16 == 0)
 }
 
-// Stores bytes over dst, whose first byte is register a.
-fn store(dst: &mut [u8], a: usize, bytes: &[u8])
-    requires { a + length dst.old ≤ 16 }
-    ensures { dst.new ≡ stored a dst.old bytes.now }
-{
-    let n = common::shorter(dst.len(), bytes.len());
-    let mut j = 0;
-    while j < n {
-        dst[j] = kept_bits(a + j, bytes[j]);
-        j += 1;
-    }
-}
-
-// The registers after bytes are written from address a on: the part from there is lent on to be stored into.
-pub fn write(registers: [u8; 16], a: usize, bytes: &[u8]) -> [u8; 16]
+// The registers after bytes are written from address a on, past 0Fh ignored.
+pub fn write(mut registers: [u8; 16], a: usize, bytes: &[u8]) -> [u8; 16]
     ensures { result ≡ written registers a bytes.now }
 {
-    if a > 16 {
-        return registers;
+    for (address, byte) in (a..registers.len()).zip(bytes) {
+        registers[address] = kept_bits(address, *byte);
     }
-    let mut next = registers;
-    store(&mut next[a..], a, bytes);
-    next
+    registers
 }
 
 // What a write of the byte b to 09h loads, 0 where that turns the watchdog off.
