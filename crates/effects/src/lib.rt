@@ -54,7 +54,7 @@ fn configure(mut c: Core, configuration: u8, b: u8) -> Core
     ensures { result ≡ configured configuration b c }
 {
     let value = Seconds((b % 16) as u32);
-    let load = units::in_sixteenths(value);
+    let load = Sixteenths::from(value);
     let setup = Setup {
         configuration,
         protocol: b / 16,
@@ -75,7 +75,7 @@ fn reload_guard(mut c: Core) -> Core
         return c;
     }
     let value = c.setup.guardvalue;
-    let load = units::in_sixteenths(value);
+    let load = Sixteenths::from(value);
     let mut power = c.power;
     power.guard = load;
     c.power = power;

@@ -11,9 +11,7 @@ const FILL: u8 = 0xFF;
 pub fn answer(out: &mut [u8], reply: &[u8])
     ensures { out.new ≡ answered reply.now (length out.old) }
 {
-    let mut i = 0;
-    while i < out.len() {
-        out[i] = common::byte_or(reply, i, FILL);
-        i += 1;
-    }
+    let n = reply.len().min(out.len());
+    out[..n].copy_from_slice(&reply[..n]);
+    out[n..].fill(FILL);
 }

@@ -65,7 +65,7 @@ fn guard_within(core: Core) -> bool
     ensures { result ≡ guard_within core }
 {
     let value = core.setup.guardvalue;
-    let load = units::in_sixteenths(value);
+    let load = Sixteenths::from(value);
     core.power.guard.0 <= load.0
 }
 

@@ -1,38 +1,36 @@
--- `output::answer` meets its contract. The loop's invariant: the bytes before `i` are written. Assumes nothing.
-use Prim.Native.Nat.{ℕ}
-use mathlib.Core.Path.{refl, sym, ◌∙◌}
-use lib.ListN.{get_or}
+-- `output::answer` meets its contract: the reply's bytes, as many as fit, and FFh behind them. Assumes nothing.
+use Prim.Native.Nat.{ℕ, zero, suc, ◌-◌, ◌<◌, min}
+use mathlib.Core.Path.{◌≡◌, sym, ◌∙◌}
+use mathlib.Core.List.{List, ◌++◌}
+use lib.ListN.{length, get_or, take, drop, replicate}
 use native.Mathlib.Omega.{arith}
-use Rattle.common.proofs.Fill.{front_none, front_more, front_all}
+use Rattle.std.proofs.lemmas.Grind.{common_steps, same_number_lists}
+use Rattle.common.specs.Fill.{up_to}
+use Rattle.common.proofs.Fill.{up_to_length}
 use Rattle.output.specs.Output.{answered}
-use borrow.Author.Rules.{rules}
 use Rattle.output.proofs.answer.Goals as goal
 
-pub loop-i-init : goal.loop-i-init
-loop-i-init c = (search rules, refl, sym (front_none _ _))
+up_to_at : (f : ℕ → ℕ) (n i : ℕ) → i < n → get_or (up_to f n) i 0 ≡ f i
+unfolding up_to
+up_to_at f zero i h = omega arith
+up_to_at f (suc n) i h = let e = up_to_length f n in let k : i < n → get_or (up_to f n) i 0 ≡ f i = up_to_at f n i in grind (arith, common_steps)
 
-pub byte_or-requires : goal.byte_or-requires
-byte_or-requires c = search rules
+laid : (n : ℕ) (reply out a f : List ℕ) → n ≡ min (length reply) (length out) → a ≡ take n reply
+    → f ≡ replicate (length (take (length (a ++ drop n out) - n) (drop n (a ++ drop n out)))) 255
+    → take n (a ++ drop n out) ++ (f ++ drop (length (a ++ drop n out) - n) (drop n (a ++ drop n out))) ≡ take n reply ++ replicate (length out - n) 255
+laid n reply out a f e b g = grind (arith, common_steps)
 
-pub bounds-out-i : goal.bounds-out-i
-bounds-out-i c = search rules
+same_at : (reply : List ℕ) (n m i : ℕ) → n ≡ min (length reply) m → i < m → get_or (take n reply ++ replicate (m - n) 255) i 0 ≡ get_or reply i 255
+same_at reply n m i e h = grind (arith, common_steps)
 
-pub overflow_add-i : goal.overflow_add-i
-overflow_add-i c = search rules
-
-pub loop-i-smaller : goal.loop-i-smaller
-loop-i-smaller c = search rules
-
-pub loop-i-preserved : goal.loop-i-preserved
-loop-i-preserved c =
-    let a = c.args in (
-      omega arith,
-      search rules,
-      cc (front_more (λ (k : ℕ). get_or a.reply.now k 255) c.loop-i.i a.out.now (omega arith)),
-    )
+filled : (reply : List ℕ) (n m : ℕ) → n ≡ min (length reply) m → take n reply ++ replicate (m - n) 255 ≡ answered reply m
+unfolding answered
+filled reply n m e =
+    let f = (λ (i : ℕ). get_or reply i 255) in
+    let l : length (take n reply ++ replicate (m - n) 255) ≡ m = grind (arith, common_steps) in
+    same_number_lists _ _ (l ∙ sym (up_to_length f m)) (λ i h. same_at reply n m i e (omega arith) ∙ sym (up_to_at f m i (omega arith)))
 
 pub returns : goal.returns
-unfolding answered
 returns c =
-    let a = c.args in
-    c.loop-i.invariant.2 ∙ front_all _ c.loop-i.i a.out.now (omega arith)
+    let n = c.min-n.result in
+    laid n c.args.reply.now c.args.out.now _ _ c.min-n.ensures c.copy_from_slice.ensures.after (c.fill.ensures.after (λ _ e. e)) ∙ filled c.args.reply.now n _ c.min-n.ensures
