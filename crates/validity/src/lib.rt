@@ -9,6 +9,7 @@ use controller::Core;
 use image::{CONFIGURATION, DISPLAY_CONTROL, FLAGS, IMAGE_LEN, PINS, SETUP, UNUSED};
 use panel::Panel;
 use registers::WATCHDOG;
+use units::Sixteenths;
 
 // Whether the bytes without a use, 44 to 63, are 0.
 fn tail_clear(image: [u8; 64]) -> bool
