@@ -1,9 +1,9 @@
 // The sixteen clock registers 00h..0Fh, held as an array by value: single bits, reserved bits, writing, and what the watchdog loads.
 #![tactic(auto)]
 
-ghost use Rattle.std.specs.Prelude.{◌≡◌, ◌+◌, ◌≤◌, ◌<◌, length};
+ghost use Rattle.std.specs.Prelude.{◌≡◌, ◌<◌};
 ghost use Rattle.registers.specs.Names.{stopped, afe, abe, wdfen};
-ghost use Rattle.registers.specs.Written.{kept, reserved_clear, stored, written};
+ghost use Rattle.registers.specs.Written.{kept, reserved_clear, written};
 ghost use Rattle.registers.specs.Watchdog.{watchdog_load};
 
 use units::Sixteenths;

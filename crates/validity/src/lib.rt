@@ -15,26 +15,7 @@ use units::Sixteenths;
 fn tail_clear(image: [u8; 64]) -> bool
     ensures { result ≡ conj (tail_tests image) }
 {
-    (image[UNUSED] == 0)
-        & (image[UNUSED + 1] == 0)
-        & (image[UNUSED + 2] == 0)
-        & (image[UNUSED + 3] == 0)
-        & (image[UNUSED + 4] == 0)
-        & (image[UNUSED + 5] == 0)
-        & (image[UNUSED + 6] == 0)
-        & (image[UNUSED + 7] == 0)
-        & (image[UNUSED + 8] == 0)
-        & (image[UNUSED + 9] == 0)
-        & (image[UNUSED + 10] == 0)
-        & (image[UNUSED + 11] == 0)
-        & (image[UNUSED + 12] == 0)
-        & (image[UNUSED + 13] == 0)
-        & (image[UNUSED + 14] == 0)
-        & (image[UNUSED + 15] == 0)
-        & (image[UNUSED + 16] == 0)
-        & (image[UNUSED + 17] == 0)
-        & (image[UNUSED + 18] == 0)
-        & (image[UNUSED + 19] == 0)
+    image[UNUSED..] == [0u8; 20]
 }
 
 // Whether the bits without a name are 0.
