@@ -36,7 +36,8 @@ pub const ALARM_FLAG: u8 = 1;
 
 const WATCHDOG_FLAG: u8 = 2;
 
-// The clock registers, the sixteenths, the flags (b0 alarm, b1 watchdog) and what is left of the watchdog, 0 where it is not running.
+// The clock registers, the sixteenths, the flags (b0 alarm, b1 watchdog) and what is left of the watchdog, 0 where it is not running. What is left
+// is kept as a count, and not as an Option: 0 is the count that the last tick leaves, and what the image holds (`image/Image.rtc_in`).
 #[derive(Clone, Copy)]
 pub struct Rtc {
     pub registers: [u8; 16],
@@ -54,7 +55,8 @@ pub struct Power {
     pub guard: Sixteenths,
 }
 
-// The last configuration bits, the remote protocol and the guard value.
+// The last configuration bits, the remote protocol and the guard value. The protocol is kept as its number, and not as an enum: an image holds any
+// number below 8 here until it is judged, and `image::decode` gives a state for each (`image/Image.setup_in`).
 #[derive(Clone, Copy)]
 pub struct Setup {
     pub configuration: u8,
@@ -71,7 +73,8 @@ pub struct Keys {
     pub store: u32,
 }
 
-// The remote key: fresh 0 or 1, address and command.
+// The remote key: fresh 0 or 1, address and command. Kept as three bytes, and not as an Option: an image holds any three bytes here until it is
+// judged, `image::decode` gives a state for each (`image/Image.remote_in`), and 62h replies them as they stand (`panel/Read.remote_reply`).
 #[derive(Clone, Copy)]
 pub struct Remote {
     pub fresh: u8,

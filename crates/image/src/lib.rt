@@ -60,38 +60,21 @@ const WAKE_UP: u8 = 2;
 const STBY: u8 = 4;
 
 // The number in the two bytes from a place on, low byte first.
-fn word_at(image: [u8; 64], at: usize) -> u32
+fn word_at(image: [u8; 64], at: usize) -> u16
     requires { at < 63 }
     ensures { result ≡ word_at image at }
 {
-    u32::from(u16::from_le_bytes([image[at], image[at + 1]]))
-}
-
-// A count of sixteenths in the two bytes from a place on.
-fn decode_sixteenths(image: [u8; 64], at: usize) -> Sixteenths
-    requires { at < 63 }
-    ensures { result.0 ≡ word_at image at }
-{
-    Sixteenths(u64::from(word_at(image, at)))
-}
-
-// The clock registers.
-fn decode_registers(image: [u8; 64]) -> [u8; 16]
-    ensures { result ≡ registers_in image }
-{
-    let mut registers = [0u8; 16];
-    registers.copy_from_slice(&image[..16]);
-    registers
+    u16::from_le_bytes([image[at], image[at + 1]])
 }
 
 fn decode_keys(image: [u8; 64]) -> Keys
     ensures { result ≡ keys_in image }
 {
     Keys {
-        mask: word_at(image, HOT_KEYS),
-        sample: word_at(image, LAST_SAMPLE),
-        accepted: word_at(image, ACCEPTED_KEYS),
-        store: word_at(image, KEY_STORE),
+        mask: u32::from(word_at(image, HOT_KEYS)),
+        sample: u32::from(word_at(image, LAST_SAMPLE)),
+        accepted: u32::from(word_at(image, ACCEPTED_KEYS)),
+        store: u32::from(word_at(image, KEY_STORE)),
     }
 }
 
@@ -103,7 +86,7 @@ fn decode_power(image: [u8; 64]) -> Power
         ready: common::bit(pins, READY),
         wakeup: common::bit(pins, WAKE_UP),
         stby: common::bit(pins, STBY),
-        guard: decode_sixteenths(image, GUARD_LEFT),
+        guard: Sixteenths(u64::from(word_at(image, GUARD_LEFT))),
     }
 }
 
@@ -111,10 +94,10 @@ fn decode_rtc(image: [u8; 64]) -> Rtc
     ensures { result ≡ rtc_in image }
 {
     Rtc {
-        registers: decode_registers(image),
+        registers: load_registers(&image),
         sixteenths: Sixteenths(u64::from(image[SIXTEENTHS])),
         flags: image[FLAGS],
-        watchdog: decode_sixteenths(image, WATCHDOG_LEFT),
+        watchdog: Sixteenths(u64::from(word_at(image, WATCHDOG_LEFT))),
     }
 }
 
