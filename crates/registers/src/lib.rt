@@ -50,6 +50,8 @@ const ABE: u8 = 32;
 
 const WDFEN: u8 = 128;
 
+// Kept as four functions, and not as one with the register and the bit as parameters: that one is `common::bit`, and each name here says which bit.
+
 // 01h b7: whether the oscillator is stopped.
 pub fn is_stopped(registers: [u8; 16]) -> bool
     ensures { result ≡ stopped registers }
