@@ -137,13 +137,12 @@ pub fn face(registers: [u8; 16]) -> [u8; 4]
 }
 
 // The bytes of the first n digits, the others 0.
-fn in_use(n: u8, bytes: [u8; 5]) -> [u8; 5]
+fn in_use(n: u8, mut bytes: [u8; 5]) -> [u8; 5]
     ensures { result ≡ five_digits (take n bytes) }
 {
     let used = (n as usize).min(bytes.len());
-    let mut shown = [BLANK; 5];
-    shown[..used].copy_from_slice(&bytes[..used]);
-    shown
+    bytes[used..].fill(BLANK);
+    bytes
 }
 
 // What show writes.
