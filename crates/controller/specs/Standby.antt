@@ -4,7 +4,9 @@ use Rattle.std.specs.Int.Bits.{bit_or}
 use Rattle.units.specs.declared.Sixteenths.{Sixteenths}
 use Rattle.units.specs.Units.{sixteenths_of}
 use Rattle.controller.specs.declared.Core.{Core}
-use Rattle.controller.specs.State.{with_power, with_interrupt, power, sixteenths}
+use Rattle.controller.specs.declared.Source.{Source}
+use Rattle.controller.specs.declared.Source.TheVariants.{Rtc, WakeUp, Remote, Key}
+use Rattle.controller.specs.State.{with_power, with_interrupt, power, sixteenths, RTC, WAKE_UP, REMOTE, KEY}
 
 -- what the guard loads: 16 times its value
 abbrev pub guard_load : Core → Sixteenths
@@ -17,6 +19,13 @@ standby_begun c = with_power c (power c.power.ready c.power.wakeup true (sixteen
 -- STBY goes low and the guard loads
 abbrev pub standby_ended : Core → Core
 standby_ended c = with_power c (power c.power.ready c.power.wakeup false (guard_load c))
+
+-- the bit of a source, with STBY high
+abbrev pub bit_of : Source → ℕ
+bit_of Rtc = RTC
+bit_of WakeUp = WAKE_UP
+bit_of Remote = REMOTE
+bit_of Key = KEY
 
 -- an event of a source that counts: with STBY low its bit of b7..b4 is set, with STBY high its bit of b3..b0, and standby ends
 unfoldable pub raised : ℕ → Core → Core

@@ -2,8 +2,8 @@
 // the next one.
 #![tactic(auto)]
 
-ghost use Rattle.std.specs.Prelude.{◌≡◌, ◌≤◌};
-ghost use Rattle.controller.specs.Standby.{standby_begun, standby_ended, raised};
+ghost use Rattle.std.specs.Prelude.{◌≡◌};
+ghost use Rattle.controller.specs.Standby.{standby_begun, standby_ended, bit_of, raised};
 
 mod pins;
 mod remote_key;
@@ -14,13 +14,13 @@ mod tick;
 use units::{Seconds, Sixteenths};
 
 // Sources of the interrupt byte, by their bits with STBY high; with STBY low the bits are four higher.
-const KEY: u8 = 8;
-
-const REMOTE: u8 = 4;
-
-const WAKE_UP: u8 = 2;
-
-const RTC: u8 = 1;
+#[derive(Clone, Copy, PartialEq, Eq, Debug)]
+enum Source {
+    Rtc = 1,
+    WakeUp = 2,
+    Remote = 4,
+    Key = 8,
+}
 
 // Bits of the configuration: b0 the guard's end begins standby, b1 every key is hot, b2 a remote key wakes, b5 WAKE_UP counts.
 const GUARD_STANDBY: u8 = 1;
@@ -36,7 +36,8 @@ pub const ALARM_FLAG: u8 = 1;
 
 const WATCHDOG_FLAG: u8 = 2;
 
-// The clock registers, the sixteenths, the flags (b0 alarm, b1 watchdog) and what is left of the watchdog, 0 where it is not running.
+// The clock registers, the sixteenths, the flags (b0 alarm, b1 watchdog) and what is left of the watchdog, 0 where it is not running. What is left
+// is kept as a count, and not as an Option: 0 is the count that the last tick leaves, and what the image holds (`image/Image.rtc_in`).
 #[derive(Clone, Copy)]
 pub struct Rtc {
     pub registers: [u8; 16],
@@ -54,7 +55,8 @@ pub struct Power {
     pub guard: Sixteenths,
 }
 
-// The last configuration bits, the remote protocol and the guard value.
+// The last configuration bits, the remote protocol and the guard value. The protocol is kept as its number, and not as an enum: an image holds any
+// number below 8 here until it is judged, and `image::decode` gives a state for each (`image/Image.setup_in`).
 #[derive(Clone, Copy)]
 pub struct Setup {
     pub configuration: u8,
@@ -71,7 +73,8 @@ pub struct Keys {
     pub store: u32,
 }
 
-// The remote key: fresh 0 or 1, address and command.
+// The remote key: fresh 0 or 1, address and command. Kept as three bytes, and not as an Option: an image holds any three bytes here until it is
+// judged, `image::decode` gives a state for each (`image/Image.remote_in`), and 62h replies them as they stand (`panel/Read.remote_reply`).
 #[derive(Clone, Copy)]
 pub struct Remote {
     pub fresh: u8,
@@ -94,11 +97,8 @@ impl Core {
     pub fn begin_standby(mut self) -> Core
         ensures { result ≡ standby_begun self }
     {
-        let none = Sixteenths(0);
-        let mut power = self.power;
-        power.stby = true;
-        power.guard = none;
-        self.power = power;
+        self.power.stby = true;
+        self.power.guard = Sixteenths(0);
         self
     }
 
@@ -106,25 +106,21 @@ impl Core {
     fn end_standby(mut self) -> Core
         ensures { result ≡ standby_ended self }
     {
-        let value = self.setup.guardvalue;
-        let load = units::in_sixteenths(value);
-        let mut power = self.power;
-        power.stby = false;
-        power.guard = load;
-        self.power = power;
+        self.power.stby = false;
+        self.power.guard = Sixteenths::from(self.setup.guardvalue);
         self
     }
 
     // An event of a source that counts: its bit is set, and standby ends.
-    fn raise(mut self, source: u8) -> Core
-        requires { source ≤ 15 }
-        ensures { result ≡ raised source self }
+    #[tactic(auto, unfolding(crate::specs::Standby::raised))]
+    fn raise(mut self, source: Source) -> Core
+        ensures { result ≡ raised (bit_of source) self }
     {
         if self.power.stby {
-            self.interrupt = self.interrupt | source;
+            self.interrupt |= source as u8;
             return self.end_standby();
         }
-        self.interrupt = self.interrupt | (16 * source);
+        self.interrupt |= 16 * (source as u8);
         self
     }
 }

@@ -2,22 +2,22 @@
 ghost use Rattle.std.specs.Prelude.{◌≡◌};
 ghost use Rattle.controller.specs.Remote.{keyed};
 
-use crate::{Core, REMOTE, REMOTE_WAKES, Remote};
+use crate::{Core, REMOTE_WAKES, Remote, Source};
 
 impl Core {
     // A remote key is stored fresh; in standby it counts only with configuration b2.
+    #[tactic(auto, unfolding(crate::specs::Remote::keyed))]
     pub fn receive_key(mut self, address: u8, command: u8) -> Core
         ensures { result ≡ keyed self address command }
     {
-        let key = Remote {
+        self.remote = Remote {
             fresh: 1,
             address,
             command,
         };
-        self.remote = key;
         if self.power.stby & !common::bit(self.setup.configuration, REMOTE_WAKES) {
             return self;
         }
-        self.raise(REMOTE)
+        self.raise(Source::Remote)
     }
 }

@@ -2,76 +2,62 @@
 ghost use Rattle.std.specs.Prelude.{◌≡◌};
 ghost use Rattle.controller.specs.Tick.{second_passed, clock_ticked, watchdog_ticked, guard_ticked, ticked};
 
-use crate::{ALARM_FLAG, Core, GUARD_STANDBY, RTC, WATCHDOG_FLAG};
+use crate::{ALARM_FLAG, Core, GUARD_STANDBY, Source, WATCHDOG_FLAG};
 use units::Sixteenths;
 
 impl Core {
     // The second passes; with AFE set a match raises the alarm flag and an RTC event.
+    #[tactic(auto, unfolding(crate::specs::Tick::second_passed))]
     fn pass_second(mut self) -> Core
         ensures { result ≡ second_passed self }
     {
-        let mut rtc = self.rtc;
-        let registers = rtc.registers;
-        let none = Sixteenths(0);
+        let registers = self.rtc.registers;
         let clock = calendar::next_second(timekeeper::clock_of(registers));
-        let moved = timekeeper::with_clock(registers, clock);
-        rtc.registers = moved;
-        rtc.sixteenths = none;
+        self.rtc.registers = timekeeper::with_clock(registers, clock);
+        self.rtc.sixteenths = Sixteenths(0);
         if registers::has_afe(registers)
             & alarm::match_second(timekeeper::alarm_of(registers), clock)
         {
-            rtc.flags = rtc.flags | ALARM_FLAG;
-            self.rtc = rtc;
-            return self.raise(RTC);
+            self.rtc.flags |= ALARM_FLAG;
+            return self.raise(Source::Rtc);
         }
-        self.rtc = rtc;
         self
     }
 
     // The clock's part of a tick.
+    #[tactic(auto, unfolding(crate::specs::Tick::clock_ticked))]
     fn tick_clock(mut self) -> Core
         ensures { result ≡ clock_ticked self }
     {
-        let mut rtc = self.rtc;
-        let registers = rtc.registers;
-        if registers::is_stopped(registers) {
+        if registers::is_stopped(self.rtc.registers) {
             return self;
         }
-        let passed = rtc.sixteenths;
-        if units::fills_with_next(passed) {
+        if self.rtc.sixteenths.fills_with_next() {
             return self.pass_second();
         }
-        let more = Sixteenths(passed.0 + 1);
-        rtc.sixteenths = more;
-        self.rtc = rtc;
+        self.rtc.sixteenths.0 += 1;
         self
     }
 
     // The watchdog's part of a tick.
+    #[tactic(auto, unfolding(crate::specs::Tick::watchdog_ticked))]
     fn tick_watchdog(mut self) -> Core
         ensures { result ≡ watchdog_ticked self }
     {
-        let mut rtc = self.rtc;
-        let registers = rtc.registers;
-        let left = rtc.watchdog.0;
-        if left == 0 {
+        let left = self.rtc.watchdog.0;
+        if (left == 0) | registers::is_stopped(self.rtc.registers) {
             return self;
         }
-        if registers::is_stopped(registers) {
-            return self;
+        self.rtc.watchdog.0 -= 1;
+        if (left == 1) & registers::has_wdfen(self.rtc.registers) {
+            self.rtc.flags |= WATCHDOG_FLAG;
+            return self.raise(Source::Rtc);
         }
-        let fewer = Sixteenths(left - 1);
-        rtc.watchdog = fewer;
-        if (left == 1) & registers::has_wdfen(registers) {
-            rtc.flags = rtc.flags | WATCHDOG_FLAG;
-            self.rtc = rtc;
-            return self.raise(RTC);
-        }
-        self.rtc = rtc;
         self
     }
 
     // The guard's part of a tick.
+    #[tactic(auto, unfolding(crate::specs::Tick::guard_ticked))]
     fn tick_guard(mut self) -> Core
         ensures { result ≡ guard_ticked self }
     {
@@ -82,14 +68,12 @@ impl Core {
         if (left == 1) & common::bit(self.setup.configuration, GUARD_STANDBY) {
             return self.begin_standby();
         }
-        let fewer = Sixteenths(left - 1);
-        let mut power = self.power;
-        power.guard = fewer;
-        self.power = power;
+        self.power.guard.0 -= 1;
         self
     }
 
     // A tick, a sixteenth of a second: the clock, then the watchdog, then the guard.
+    #[tactic(auto, unfolding(crate::specs::Tick::ticked))]
     pub fn tick(self) -> Core
         ensures { result ≡ ticked self }
     {

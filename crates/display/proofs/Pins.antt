@@ -1,11 +1,9 @@
--- Each line is its bit of the byte; and the way out of `lines`. Assumes nothing.
+-- Each line is its bit of the byte. Assumes nothing.
 use Prim.Native.Nat.{ℕ, ◌+◌, ◌/◌}
-use mathlib.Core.Path.{◌≡◌, refl, ap, ◌∙◌}
+use mathlib.Core.Path.{◌≡◌, refl}
 use mathlib.Core.Bool.{Bool, true, false, cond}
 use Rattle.common.specs.Bits.{bit_set}
 use Rattle.display.specs.Lines.{mute, irq, lines_of}
-
--- ---- Laws
 
 -- b0, b1 and b2 of the byte b, the rest 0
 abbrev pub Carries : ℕ → Bool → Bool → Bool → Type 0
@@ -25,16 +23,3 @@ sum_carries false false false = (refl, refl, refl, refl)
 pub lines_carry : (ready stby : Bool) (interrupt : ℕ) → Carries (lines_of ready stby interrupt) stby (mute ready) (irq ready stby interrupt)
 unfolding lines_of
 lines_carry ready stby interrupt = sum_carries stby (mute ready) (irq ready stby interrupt)
-
--- ---- Way out
-
-pub lines_sum : (ready stby m q : Bool) (interrupt a b c : ℕ)
-    → a ≡ cond stby 1 0
-    → m ≡ mute ready
-    → b ≡ cond m 2 0
-    → q ≡ irq ready stby interrupt
-    → c ≡ cond q 4 0
-    → a + b + c ≡ lines_of ready stby interrupt
-unfolding lines_of
-lines_sum ready stby m q interrupt a b c ea em eb eq ec =
-    λ i. ea i + (eb ∙ ap (λ (t : Bool). cond t 2 0) em) i + (ec ∙ ap (λ (t : Bool). cond t 4 0) eq) i

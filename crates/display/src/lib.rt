@@ -55,17 +55,15 @@ pub struct Pair {
 }
 
 // The segments of a nibble.
+#[tactic(auto, unfolding(crate::specs::Font::segments))]
 fn write_digit(nibble: u8) -> u8
     ensures { result ≡ segments nibble }
 {
-    let n = nibble as usize;
-    if n < 10 {
-        return FONT[n];
-    }
-    DASH
+    FONT.get(nibble as usize).copied().unwrap_or(DASH)
 }
 
 // The segments of a leading digit.
+#[tactic(auto, unfolding(crate::specs::Hours::leading))]
 fn write_leading(digit: u8) -> u8
     ensures { result ≡ leading digit }
 {
@@ -79,21 +77,24 @@ fn write_leading(digit: u8) -> u8
 fn write_nibbles(b: u8) -> Pair
     ensures { result ≡ nibbles b }
 {
-    let tens = write_digit(b / 16);
-    let ones = write_digit(b % 16);
-    Pair { tens, ones }
+    Pair {
+        tens: write_digit(b / 16),
+        ones: write_digit(b % 16),
+    }
 }
 
 // A number by its two decimal digits, the leading zero blank.
 fn write_unpadded(x: u8) -> Pair
     ensures { result ≡ unpadded x }
 {
-    let tens = write_leading(x / 10);
-    let ones = write_digit(x % 10);
-    Pair { tens, ones }
+    Pair {
+        tens: write_leading(x / 10),
+        ones: write_digit(x % 10),
+    }
 }
 
 // The hours: from 1 to 12 where 12/24 is set, else nibble by nibble.
+#[tactic(auto, unfolding(crate::specs::Hours::hours_shown))]
 fn write_hours(registers: [u8; 16]) -> Pair
     ensures { result ≡ hours_shown registers }
 {
@@ -113,6 +114,7 @@ fn place(left: Pair, right: Pair) -> [u8; 4]
 }
 
 // The clock face on digits 1 to 4. A field's nibbles are what its register's other bits leave.
+#[tactic(auto, unfolding(crate::specs::Face::face_of))]
 pub fn face(registers: [u8; 16]) -> [u8; 4]
     ensures { result ≡ face_of registers }
 {
@@ -135,33 +137,29 @@ pub fn face(registers: [u8; 16]) -> [u8; 4]
 }
 
 // The bytes of the first n digits, the others 0.
-fn in_use(n: u8, bytes: [u8; 5]) -> [u8; 5]
+fn in_use(n: u8, mut bytes: [u8; 5]) -> [u8; 5]
     ensures { result ≡ five_digits (take n bytes) }
 {
-    [
-        common::weight(0 < n, bytes[0]),
-        common::weight(1 < n, bytes[1]),
-        common::weight(2 < n, bytes[2]),
-        common::weight(3 < n, bytes[3]),
-        common::weight(4 < n, bytes[4]),
-    ]
+    let used = (n as usize).min(bytes.len());
+    bytes[used..].fill(BLANK);
+    bytes
 }
 
 // What show writes.
+#[tactic(auto, unfolding(crate::specs::Shown::content))]
 pub fn show(registers: [u8; 16], configuration: u8, stby: bool, d: Display) -> [u8; 5]
     ensures { result ≡ shown registers configuration stby d }
 {
     let on = common::bit(d.control, DISPLAY_ON);
     let clock = common::bit(configuration, CLOCK_FACE);
     if !on | (stby & !clock) {
-        return [0, 0, 0, 0, 0];
+        return [BLANK; 5];
     }
     if clock & (4 <= d.digits) {
-        let f = face(registers);
-        return [f[0], f[1], f[2], f[3], BLANK];
+        let [first, second, third, fourth] = face(registers);
+        return [first, second, third, fourth, BLANK];
     }
-    let bytes = d.bytes;
-    in_use(d.digits, bytes)
+    in_use(d.digits, d.bytes)
 }
 
 // Whether MUTE is high.
@@ -179,6 +177,7 @@ fn is_irq_asserted(ready: bool, stby: bool, interrupt: u8) -> bool
 }
 
 // The byte that lines writes.
+#[tactic(auto, unfolding(crate::specs::Lines::lines_of))]
 pub fn lines(ready: bool, stby: bool, interrupt: u8) -> u8
     ensures { result ≡ lines_of ready stby interrupt }
 {

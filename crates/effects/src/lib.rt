@@ -44,7 +44,7 @@ fn configure(mut c: Core, configuration: u8, b: u8) -> Core
         protocol: b / 16,
         guardvalue: value,
     };
-    c.power.guard = units::in_sixteenths(value);
+    c.power.guard = Sixteenths::from(value);
     c
 }
 
@@ -54,7 +54,7 @@ fn reload_guard(mut c: Core) -> Core
     ensures { result ≡ guard_reloaded c }
 {
     if c.power.guard.0 != 0 {
-        c.power.guard = units::in_sixteenths(c.setup.guardvalue);
+        c.power.guard = Sixteenths::from(c.setup.guardvalue);
     }
     c
 }

@@ -1,5 +1,5 @@
 -- Where things stand in the image (document 01, "The image": the table).
-use Rattle.std.specs.Prelude.{ℕ, ◌+◌, ◌*◌, ◌/◌, ◌%◌, ◌<◌, List, [], ◌∷◌, get_or}
+use Rattle.std.specs.Prelude.{ℕ, ◌+◌, ◌*◌, ◌/◌, ◌%◌, ◌<◌, List, [], ◌∷◌, get_or, slice_set}
 
 -- ---- Bytes
 
@@ -99,3 +99,7 @@ high_byte n = n / 256 % 256
 
 abbrev pub word_bytes : ℕ → List ℕ
 word_bytes n = low_byte n ∷ high_byte n ∷ []
+
+-- an image with a number put in two bytes, low byte first
+abbrev pub word_put : List ℕ → ℕ → ℕ → List ℕ
+word_put l at n = slice_set (slice_set l at (low_byte n)) (at + 1) (high_byte n)

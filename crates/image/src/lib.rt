@@ -1,9 +1,9 @@
 // The image of 64 bytes: taken in and written out by value, the state that it holds, and the image of a state.
 #![tactic(auto)]
 
-ghost use Rattle.std.specs.Prelude.{◌≡◌, ◌+◌, ◌*◌, ◌<◌, length};
-ghost use Rattle.image.specs.Layout.{image_len, word_at};
-ghost use Rattle.image.specs.Image.{registers_in, rtc_in, power_in, setup_in, keys_in, remote_in, core_in, display_in, decoded, pins_byte, state_bytes, laid_out, encoded};
+ghost use Rattle.std.specs.Prelude.{◌≡◌, ◌<◌, length};
+ghost use Rattle.image.specs.Layout.{image_len, word_at, word_put};
+ghost use Rattle.image.specs.Image.{registers_in, rtc_in, power_in, setup_in, keys_in, remote_in, core_in, display_in, decoded, pins_byte, encoded};
 
 use controller::{Core, Keys, Power, Remote, Rtc, Setup};
 use display::Display;
@@ -59,84 +59,55 @@ const WAKE_UP: u8 = 2;
 
 const STBY: u8 = 4;
 
-// The number in two bytes, low byte first.
-fn word(low: u8, high: u8) -> u32
-    ensures { result ≡ low + 256 * high }
-{
-    (low as u32) + 256 * (high as u32)
-}
-
-// The number in the two bytes from a place on.
-fn word_at(image: [u8; 64], at: usize) -> u32
+// The number in the two bytes from a place on, low byte first.
+fn word_at(image: [u8; 64], at: usize) -> u16
     requires { at < 63 }
     ensures { result ≡ word_at image at }
 {
-    word(image[at], image[at + 1])
-}
-
-// A count of sixteenths in the two bytes from a place on.
-fn decode_sixteenths(image: [u8; 64], at: usize) -> Sixteenths
-    requires { at < 63 }
-    ensures { result.0 ≡ word_at image at }
-{
-    Sixteenths(word_at(image, at) as u64)
-}
-
-// The clock registers.
-fn decode_registers(image: [u8; 64]) -> [u8; 16]
-    ensures { result ≡ registers_in image }
-{
-    let mut registers = [0u8; 16];
-    registers.copy_from_slice(&image[..16]);
-    registers
+    u16::from_le_bytes([image[at], image[at + 1]])
 }
 
 fn decode_keys(image: [u8; 64]) -> Keys
     ensures { result ≡ keys_in image }
 {
     Keys {
-        mask: word_at(image, HOT_KEYS),
-        sample: word_at(image, LAST_SAMPLE),
-        accepted: word_at(image, ACCEPTED_KEYS),
-        store: word_at(image, KEY_STORE),
+        mask: u32::from(word_at(image, HOT_KEYS)),
+        sample: u32::from(word_at(image, LAST_SAMPLE)),
+        accepted: u32::from(word_at(image, ACCEPTED_KEYS)),
+        store: u32::from(word_at(image, KEY_STORE)),
     }
 }
 
 fn decode_power(image: [u8; 64]) -> Power
     ensures { result ≡ power_in image }
 {
-    let guard = decode_sixteenths(image, GUARD_LEFT);
     let pins = image[PINS];
     Power {
         ready: common::bit(pins, READY),
         wakeup: common::bit(pins, WAKE_UP),
         stby: common::bit(pins, STBY),
-        guard,
+        guard: Sixteenths(u64::from(word_at(image, GUARD_LEFT))),
     }
 }
 
 fn decode_rtc(image: [u8; 64]) -> Rtc
     ensures { result ≡ rtc_in image }
 {
-    let registers = decode_registers(image);
-    let watchdog = decode_sixteenths(image, WATCHDOG_LEFT);
-    let sixteenths = Sixteenths(image[SIXTEENTHS] as u64);
     Rtc {
-        registers,
-        sixteenths,
+        registers: load_registers(&image),
+        sixteenths: Sixteenths(u64::from(image[SIXTEENTHS])),
         flags: image[FLAGS],
-        watchdog,
+        watchdog: Sixteenths(u64::from(word_at(image, WATCHDOG_LEFT))),
     }
 }
 
 fn decode_setup(image: [u8; 64]) -> Setup
     ensures { result ≡ setup_in image }
 {
-    let guardvalue = Seconds((image[SETUP] % 16) as u32);
     Setup {
         configuration: image[CONFIGURATION],
         protocol: image[SETUP] / 16 % 8,
-        guardvalue,
+        guardvalue: Seconds(u32::from(image[SETUP] % 16)),
     }
 }
 
@@ -166,13 +137,8 @@ fn decode_core(image: [u8; 64]) -> Core
 fn decode_display(image: [u8; 64]) -> Display
     ensures { result ≡ display_in image }
 {
-    let bytes = [
-        image[DIGIT_BYTES],
-        image[DIGIT_BYTES + 1],
-        image[DIGIT_BYTES + 2],
-        image[DIGIT_BYTES + 3],
-        image[DIGIT_BYTES + 4],
-    ];
+    let mut bytes = [0u8; 5];
+    bytes.copy_from_slice(&image[DIGIT_BYTES..UNUSED]);
     Display {
         digits: image[DIGITS],
         control: image[DISPLAY_CONTROL],
@@ -199,56 +165,14 @@ fn encode_pins(power: Power) -> u8
         + common::weight(power.stby, STBY)
 }
 
-// The bytes between the registers and the zeros, the pins' byte given.
-fn encode_fields(p: Panel, pins: u8) -> [u8; 28]
-    ensures { result ≡ state_bytes p pins }
+// Writes a number of two bytes from a place on, low byte first.
+fn write_word(image: &mut [u8; 64], at: usize, x: u64)
+    requires { at < 63 }
+    ensures { image.new ≡ word_put image.old at x }
 {
-    let core = p.core;
-    let rtc = core.rtc;
-    let setup = core.setup;
-    let keys = core.keys;
-    let display = p.display;
-    let digits = display.bytes;
-    [
-        (rtc.sixteenths.0 % 256) as u8,
-        rtc.flags,
-        core.interrupt,
-        pins,
-        setup.configuration,
-        16 * (setup.protocol % 8) + (setup.guardvalue.0 % 16) as u8,
-        (core.power.guard.0 % 256) as u8,
-        (core.power.guard.0 / 256 % 256) as u8,
-        (rtc.watchdog.0 % 256) as u8,
-        (rtc.watchdog.0 / 256 % 256) as u8,
-        (keys.mask % 256) as u8,
-        (keys.mask / 256 % 256) as u8,
-        (keys.sample % 256) as u8,
-        (keys.sample / 256 % 256) as u8,
-        (keys.accepted % 256) as u8,
-        (keys.accepted / 256 % 256) as u8,
-        (keys.store % 256) as u8,
-        (keys.store / 256 % 256) as u8,
-        core.remote.fresh,
-        core.remote.address,
-        core.remote.command,
-        display.digits,
-        display.control,
-        digits[0],
-        digits[1],
-        digits[2],
-        digits[3],
-        digits[4],
-    ]
-}
-
-// Registers, fields and zeros to the end.
-fn lay_out(registers: [u8; 16], fields: [u8; 28]) -> [u8; 64]
-    ensures { result ≡ laid_out registers fields }
-{
-    let mut image = [0u8; 64];
-    image[..SIXTEENTHS].copy_from_slice(&registers);
-    image[SIXTEENTHS..UNUSED].copy_from_slice(&fields);
-    image
+    let [low, high, ..] = x.to_le_bytes();
+    image[at] = low;
+    image[at + 1] = high;
 }
 
 // The image of a state.
@@ -256,10 +180,27 @@ pub fn encode(p: Panel) -> [u8; 64]
     ensures { result ≡ encoded p }
 {
     let core = p.core;
-    let rtc = core.rtc;
-    let power = core.power;
-    let registers = rtc.registers;
-    lay_out(registers, encode_fields(p, encode_pins(power)))
+    let mut image = [0u8; 64];
+    image[..SIXTEENTHS].copy_from_slice(&core.rtc.registers);
+    image[SIXTEENTHS] = (core.rtc.sixteenths.0 % 256) as u8;
+    image[FLAGS] = core.rtc.flags;
+    image[INTERRUPT] = core.interrupt;
+    image[PINS] = encode_pins(core.power);
+    image[CONFIGURATION] = core.setup.configuration;
+    image[SETUP] = 16 * (core.setup.protocol % 8) + (core.setup.guardvalue.0 % 16) as u8;
+    write_word(&mut image, GUARD_LEFT, core.power.guard.0);
+    write_word(&mut image, WATCHDOG_LEFT, core.rtc.watchdog.0);
+    write_word(&mut image, HOT_KEYS, u64::from(core.keys.mask));
+    write_word(&mut image, LAST_SAMPLE, u64::from(core.keys.sample));
+    write_word(&mut image, ACCEPTED_KEYS, u64::from(core.keys.accepted));
+    write_word(&mut image, KEY_STORE, u64::from(core.keys.store));
+    image[REMOTE_FRESH] = core.remote.fresh;
+    image[REMOTE_ADDRESS] = core.remote.address;
+    image[REMOTE_COMMAND] = core.remote.command;
+    image[DIGITS] = p.display.digits;
+    image[DISPLAY_CONTROL] = p.display.control;
+    image[DIGIT_BYTES..UNUSED].copy_from_slice(&p.display.bytes);
+    image
 }
 
 // The image's bytes by value; the compiler copies 64 bytes faster than as many as there are.

@@ -7,7 +7,7 @@ ghost use Rattle.panel.specs.PowerUp.{panel_powered_up};
 ghost use Rattle.panel.specs.Display.{digits_set, display_set, digit_byte, digits_written};
 ghost use Rattle.panel.specs.Read.{keys_reply, remote_reply, interrupts_reply, output_after};
 ghost use Rattle.panel.specs.Execute.{display_executed, served};
-ghost use Rattle.panel.specs.State.{with_core, on_core};
+ghost use Rattle.panel.specs.State.{on_core};
 ghost use Rattle.controller.specs.Tick.{ticked};
 ghost use Rattle.controller.specs.Keys.{sampled};
 ghost use Rattle.controller.specs.Remote.{keyed};
@@ -31,27 +31,16 @@ fn digit_after(a: usize, bytes: &[u8], x: usize, old: u8) -> u8
     if x < a {
         return old;
     }
-    let i = x - a;
-    if i < bytes.len() {
-        return bytes[i];
-    }
-    old
+    common::byte_or(bytes, x - a, old)
 }
 
 // 40h: data go to the digit bytes from address a on.
 fn write_digits(mut d: Display, a: u8, bytes: &[u8]) -> Display
     ensures { result ≡ digits_written a bytes.now d }
 {
-    let from = a as usize;
-    let old = d.bytes;
-    let new = [
-        digit_after(from, bytes, 0x10, old[0]),
-        digit_after(from, bytes, 0x11, old[1]),
-        digit_after(from, bytes, 0x12, old[2]),
-        digit_after(from, bytes, 0x13, old[3]),
-        digit_after(from, bytes, 0x14, old[4]),
-    ];
-    d.bytes = new;
+    for i in 0..d.bytes.len() {
+        d.bytes[i] = digit_after(a as usize, bytes, 0x10 + i, d.bytes[i]);
+    }
     d
 }
 
@@ -64,7 +53,7 @@ fn set_digits(mut d: Display, n: u8) -> Display
         return d;
     }
     d.digits = n;
-    d.control = d.control % 16;
+    d.control %= 16;
     d
 }
 
@@ -92,33 +81,29 @@ fn execute_display(d: Display, k: Command, s: &[u8]) -> Display
 fn reply_keys(c: Core, out: &mut [u8])
     ensures { out.new ≡ answered (keys_reply c) (length out.old) }
 {
-    let store = c.keys.store;
-    let reply = [(store % 256) as u8, (store / 256 % 256) as u8];
-    output::answer(out, &reply);
+    let [low, high, ..] = c.keys.store.to_le_bytes();
+    output::answer(out, &[low, high]);
 }
 
 // 62h: replies the remote key.
 fn reply_remote(c: Core, out: &mut [u8])
     ensures { out.new ≡ answered (remote_reply c) (length out.old) }
 {
-    let reply = [c.remote.fresh, c.remote.address, c.remote.command];
-    output::answer(out, &reply);
+    output::answer(out, &[c.remote.fresh, c.remote.address, c.remote.command]);
 }
 
 // 63h: replies the interrupt byte and the flags.
 fn reply_interrupts(c: Core, out: &mut [u8])
     ensures { out.new ≡ answered (interrupts_reply c) (length out.old) }
 {
-    let reply = [c.interrupt, c.rtc.flags];
-    output::answer(out, &reply);
+    output::answer(out, &[c.interrupt, c.rtc.flags]);
 }
 
 // 70h: replies the registers from address a on.
 fn reply_registers(registers: [u8; 16], a: usize, out: &mut [u8])
     ensures { out.new ≡ answered (drop a registers) (length out.old) }
 {
-    let from = common::shorter(a, 16);
-    output::answer(out, &registers[from..]);
+    output::answer(out, &registers[a.min(registers.len())..]);
 }
 
 impl Panel {
@@ -126,20 +111,23 @@ impl Panel {
     pub fn power_up() -> Panel
         ensures { result ≡ panel_powered_up }
     {
-        let core = Core::power_up();
-        let display = Display {
-            digits: 5,
-            control: 0,
-            bytes: [0, 0, 0, 0, 0],
-        };
-        Panel { core, display }
+        Panel {
+            core: Core::power_up(),
+            display: Display {
+                digits: 5,
+                control: 0,
+                bytes: [0; 5],
+            },
+        }
     }
 
-    // The panel with another shared state.
-    fn with_core(mut self, core: Core) -> Panel
-        ensures { result ≡ with_core self core }
+    // An event that both panel kinds share.
+    fn on_core<F: FnOnce(Core) -> Core>(mut self, event: F) -> Panel
+        requires { F.IsAlwaysCallable event }
+        ensures core { F.post event self.core result.core }
+        ensures display { result.display ≡ self.display }
     {
-        self.core = core;
+        self.core = event(self.core);
         self
     }
 
@@ -147,40 +135,35 @@ impl Panel {
     pub fn tick(self) -> Panel
         ensures { result ≡ on_core ticked self }
     {
-        let core = self.core;
-        self.with_core(core.tick())
+        self.on_core(Core::tick)
     }
 
     // A key sample.
     pub fn sample_keys(self, sample: u32) -> Panel
         ensures { result ≡ on_core (λ c. sampled c sample) self }
     {
-        let core = self.core;
-        self.with_core(core.sample_keys(sample))
+        self.on_core(|core: Core| core.sample_keys(sample))
     }
 
     // A remote key.
     pub fn receive_key(self, address: u8, command: u8) -> Panel
         ensures { result ≡ on_core (λ c. keyed c address command) self }
     {
-        let core = self.core;
-        self.with_core(core.receive_key(address, command))
+        self.on_core(|core: Core| core.receive_key(address, command))
     }
 
     // The READY pin takes a level.
     pub fn set_ready(self, level: bool) -> Panel
         ensures { result ≡ on_core (λ c. ready_set c level) self }
     {
-        let core = self.core;
-        self.with_core(core.set_ready(level))
+        self.on_core(|core: Core| core.set_ready(level))
     }
 
     // The WAKE_UP pin takes a level.
     pub fn set_wake_up(self, level: bool) -> Panel
         ensures { result ≡ on_core (λ c. wake_up_set c level) self }
     {
-        let core = self.core;
-        self.with_core(core.set_wake_up(level))
+        self.on_core(|core: Core| core.set_wake_up(level))
     }
 
     // The panel after an accepted command, whose bytes are s; a write that leaves no valid calendar is refused.
@@ -200,11 +183,7 @@ impl Panel {
             Command::ReadKeys => reply_keys(self.core, out),
             Command::ReadRemote => reply_remote(self.core, out),
             Command::ReadInterrupts => reply_interrupts(self.core, out),
-            Command::ReadRegisters(a) => {
-                let rtc = self.core.rtc;
-                let registers = rtc.registers;
-                reply_registers(registers, a as usize, out);
-            }
+            Command::ReadRegisters(a) => reply_registers(self.core.rtc.registers, a as usize, out),
             _ => {}
         }
     }

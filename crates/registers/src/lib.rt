@@ -1,9 +1,9 @@
 // The sixteen clock registers 00h..0Fh, held as an array by value: single bits, reserved bits, writing, and what the watchdog loads.
 #![tactic(auto)]
 
-ghost use Rattle.std.specs.Prelude.{◌≡◌, ◌+◌, ◌≤◌, ◌<◌, length};
+ghost use Rattle.std.specs.Prelude.{◌≡◌, ◌<◌};
 ghost use Rattle.registers.specs.Names.{stopped, afe, abe, wdfen};
-ghost use Rattle.registers.specs.Written.{kept, reserved_clear, stored, written};
+ghost use Rattle.registers.specs.Written.{kept, reserved_clear, written};
 ghost use Rattle.registers.specs.Watchdog.{watchdog_load};
 
 use units::Sixteenths;
@@ -49,6 +49,8 @@ const AFE: u8 = 128;
 const ABE: u8 = 32;
 
 const WDFEN: u8 = 128;
+
+// Kept as four functions, and not as one with the register and the bit as parameters: that one is `common::bit`, and each name here says which bit.
 
 // 01h b7: whether the oscillator is stopped.
 pub fn is_stopped(registers: [u8; 16]) -> bool
@@ -118,29 +120,14 @@ pub fn reserved_clear(registers: [u8; 16]) -> bool
         & (registers[ALARM_WEEKDAY] % 16 == 0)
 }
 
-// Stores bytes over dst, whose first byte is register a.
-fn store(dst: &mut [u8], a: usize, bytes: &[u8])
-    requires { a + length dst.old ≤ 16 }
-    ensures { dst.new ≡ stored a dst.old bytes.now }
-{
-    let n = common::shorter(dst.len(), bytes.len());
-    let mut j = 0;
-    while j < n {
-        dst[j] = kept_bits(a + j, bytes[j]);
-        j += 1;
-    }
-}
-
-// The registers after bytes are written from address a on: the part from there is lent on to be stored into.
-pub fn write(registers: [u8; 16], a: usize, bytes: &[u8]) -> [u8; 16]
+// The registers after bytes are written from address a on, past 0Fh ignored.
+pub fn write(mut registers: [u8; 16], a: usize, bytes: &[u8]) -> [u8; 16]
     ensures { result ≡ written registers a bytes.now }
 {
-    if a > 16 {
-        return registers;
+    for (address, byte) in (a..registers.len()).zip(bytes) {
+        registers[address] = kept_bits(address, *byte);
     }
-    let mut next = registers;
-    store(&mut next[a..], a, bytes);
-    next
+    registers
 }
 
 // What a write of the byte b to 09h loads, 0 where that turns the watchdog off.

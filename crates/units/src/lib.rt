@@ -8,23 +8,27 @@ ghost use Rattle.units.specs.Units.{sixteenths_of, one_more, fills_second};
 const PER_SECOND: u64 = 16;
 
 // A count of seconds.
-#[derive(Clone, Copy)]
+#[derive(Clone, Copy, PartialEq, Eq, PartialOrd, Ord, Debug)]
 pub struct Seconds(pub u32);
 
 // A count of sixteenths of a second; wide enough for any count of seconds.
-#[derive(Clone, Copy)]
+#[derive(Clone, Copy, PartialEq, Eq, PartialOrd, Ord, Debug)]
 pub struct Sixteenths(pub u64);
 
 // The same time in sixteenths.
-pub fn in_sixteenths(s: Seconds) -> Sixteenths
-    ensures { result ≡ sixteenths_of s }
-{
-    Sixteenths(PER_SECOND * (s.0 as u64))
+impl From<Seconds> for Sixteenths {
+    ghost from_gives = { λ s x. x ≡ sixteenths_of s };
+
+    fn from(s: Seconds) -> Sixteenths {
+        Sixteenths(PER_SECOND * u64::from(s.0))
+    }
 }
 
-// Whether the next sixteenth fills a second; asked of the count before it, which may be the greatest there is.
-pub fn fills_with_next(x: Sixteenths) -> bool
-    ensures { result ≡ fills_second (one_more x) }
-{
-    PER_SECOND - 1 <= x.0
+impl Sixteenths {
+    // Whether the next sixteenth fills a second; asked of the count before it, which may be the greatest there is.
+    pub fn fills_with_next(self) -> bool
+        ensures { result ≡ fills_second (one_more self) }
+    {
+        PER_SECOND - 1 <= self.0
+    }
 }

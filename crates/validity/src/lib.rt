@@ -11,31 +11,13 @@ use controller::Core;
 use image::{CONFIGURATION, DISPLAY_CONTROL, FLAGS, IMAGE_LEN, PINS, SETUP, UNUSED};
 use panel::Panel;
 use registers::WATCHDOG;
+use units::Sixteenths;
 
 // Whether the bytes without a use, 44 to 63, are 0.
 fn tail_clear(image: [u8; 64]) -> bool
     ensures { result ≡ conj (tail_tests image) }
 {
-    (image[UNUSED] == 0)
-        & (image[UNUSED + 1] == 0)
-        & (image[UNUSED + 2] == 0)
-        & (image[UNUSED + 3] == 0)
-        & (image[UNUSED + 4] == 0)
-        & (image[UNUSED + 5] == 0)
-        & (image[UNUSED + 6] == 0)
-        & (image[UNUSED + 7] == 0)
-        & (image[UNUSED + 8] == 0)
-        & (image[UNUSED + 9] == 0)
-        & (image[UNUSED + 10] == 0)
-        & (image[UNUSED + 11] == 0)
-        & (image[UNUSED + 12] == 0)
-        & (image[UNUSED + 13] == 0)
-        & (image[UNUSED + 14] == 0)
-        & (image[UNUSED + 15] == 0)
-        & (image[UNUSED + 16] == 0)
-        & (image[UNUSED + 17] == 0)
-        & (image[UNUSED + 18] == 0)
-        & (image[UNUSED + 19] == 0)
+    image[UNUSED..] == [0u8; 20]
 }
 
 // Whether the bits without a name are 0.
@@ -67,7 +49,7 @@ fn guard_within(core: Core) -> bool
     ensures { result ≡ guard_within core }
 {
     let value = core.setup.guardvalue;
-    let load = units::in_sixteenths(value);
+    let load = Sixteenths::from(value);
     core.power.guard.0 <= load.0
 }
 
