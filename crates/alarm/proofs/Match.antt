@@ -1,11 +1,12 @@
 -- What fits and what does not: the fields of a day and of a time, hours and minutes passed over, impossible fields. Assumes nothing.
 use mathlib.Core.Path.{◌≡◌, refl, sym, ap, ◌∙◌}
-use mathlib.Core.Bool.{Bool, true, false, ◌&&◌, ◌||◌, and-true, and-false, true≢false}
+use mathlib.Core.Bool.{Bool, true, false, ◌&&◌, and-true, and-false, true≢false}
 use mathlib.Core.List.{[], ◌∷◌}
 use Prim.Native.Nat.{ℕ, ◌+◌, ◌*◌, ◌/◌, ◌%◌, ◌≤◌, ◌<◌}
 use native.Mathlib.Omega.{arith}
 use borrow.Author.Tests.{eqb-true, le-leb}
-use lib.Dec.{eqb, leb}
+use lib.Dec.{leb}
+use Rattle.std.specs.Prelude.{Option, None, Some}
 use Rattle.common.proofs.Choice.{of_cond, by_cases, and_both}
 use Rattle.common.proofs.Tests.{each, all_hold}
 use Rattle.common.proofs.Each.{done, ◌also◌}
@@ -14,7 +15,6 @@ use Rattle.calendar.specs.declared.Clock.{Clock}
 use Rattle.calendar.specs.Clock.{Valid}
 use Rattle.calendar.specs.Carry.{at_time}
 use Rattle.calendar.proofs.Date.{date_31}
-use Rattle.alarm.specs.declared.Field.{Field}
 use Rattle.alarm.specs.declared.Alarm.{Alarm}
 use Rattle.alarm.specs.Match.{fits, matches, time_fits, day_fits, in_range, possible}
 use Rattle.alarm.specs.Skip.{candidate_after}
@@ -75,15 +75,12 @@ module _ (a : Alarm) (u : ℕ) where
       P r = (u < r) × (r ≤ 86_400)
 
 -- ---- a field that is no possible time never matches
-fit_in : (f : Field) (lo hi x : ℕ) → lo ≤ x → x ≤ hi → fits f x ≡ true → in_range f lo hi ≡ true
+fit_in : (f : Option ℕ) (lo hi x : ℕ) → lo ≤ x → x ≤ hi → fits f x ≡ true → in_range f lo hi ≡ true
 unfolding fits in_range
-fit_in f lo hi x l h e = by f.any e
-  where
-    by : (b : Bool) → (b || eqb f.value x) ≡ true → (b || (leb lo f.value && leb f.value hi)) ≡ true
-    by true p = refl
-    by false p =
-        let q : f.value ≡ x = eqb-true f.value x p in
-        and_both (leb lo f.value) (leb f.value hi) (le-leb lo f.value (omega arith)) (le-leb f.value hi (omega arith))
+fit_in None lo hi x l h e = refl
+fit_in (Some v) lo hi x l h e =
+    let q : v ≡ x = eqb-true v x e in
+    and_both (leb lo v) (leb v hi) (le-leb lo v (omega arith)) (le-leb v hi (omega arith))
 
 match_possible : (a : Alarm) (c : Clock) → Valid c → matches a c ≡ true → possible a ≡ true
 unfolding matches possible

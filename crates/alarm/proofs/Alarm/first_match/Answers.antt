@@ -1,5 +1,5 @@
--- `alarm::first_match` meets its contract: an impossible field is matched by no second reached. Assumes nothing.
-use mathlib.Core.Path.{◌≡◌, sym, ◌∙◌}
+-- `alarm::Alarm::first_match` meets its contract: an impossible field is matched by no second reached. Assumes nothing.
+use mathlib.Core.Path.{◌≡◌, ◌∙◌}
 use mathlib.Core.Bool.{false}
 use Prim.Native.Nat.{ℕ, ◌+◌}
 use native.Mathlib.Nat.{add_comm}
@@ -12,23 +12,10 @@ use Rattle.alarm.specs.Reached.{first_reached}
 use Rattle.alarm.proofs.Search.{first_none}
 use Rattle.alarm.proofs.Match.{impossible_never}
 use borrow.Author.Rules.{rules}
-use Rattle.alarm.proofs.first_match.Goals as goal
+use Rattle.alarm.proofs.Alarm.first_match.Goals as goal
 
 never : (a : Alarm) (c : Clock) (n : ℕ) → possible a ≡ false → n + 1 ≡ first_reached (matches a) c n
 never a c n e = add_comm n 1 ∙ first_none (λ k. matches a (moved c k)) 1 n (λ k l h. impossible_never a e (moved c k) (moved_valid c k))
 
-pub is_possible-requires : goal.is_possible-requires
-is_possible-requires c = search rules
-
-pub overflow_add-result : goal.overflow_add-result
-overflow_add-result c = search rules
-
 pub returns-then-not-is_possible : goal.returns-then-not-is_possible
-returns-then-not-is_possible c =
-    let s = c.args in never s.a s.c s.n.0 (sym c.is_possible.ensures ∙ c.if-not-is_possible.true)
-
-pub walk_days-requires : goal.walk_days-requires
-walk_days-requires c = search rules
-
-pub returns : goal.returns
-returns c = search rules
+returns-then-not-is_possible c = search (rules, never)
