@@ -13,13 +13,11 @@ impl Core {
         let mut rtc = self.rtc;
         let registers = rtc.registers;
         let none = Sixteenths(0);
-        let clock = calendar::next_second(timekeeper::clock_of(registers));
+        let clock = timekeeper::clock_of(registers).next_second();
         let moved = timekeeper::with_clock(registers, clock);
         rtc.registers = moved;
         rtc.sixteenths = none;
-        if registers::has_afe(registers)
-            & alarm::match_second(timekeeper::alarm_of(registers), clock)
-        {
+        if registers::has_afe(registers) & timekeeper::alarm_of(registers).match_second(clock) {
             rtc.flags = rtc.flags | ALARM_FLAG;
             self.rtc = rtc;
             return self.raise(RTC);

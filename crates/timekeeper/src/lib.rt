@@ -8,7 +8,7 @@ ghost use Rattle.timekeeper.specs.Clock.{field_bytes, clock_of, valid_calendar, 
 ghost use Rattle.timekeeper.specs.Alarm.{field_of, alarm_of};
 ghost use Rattle.timekeeper.specs.Commit.{committed};
 
-use alarm::{Alarm, Field};
+use alarm::Alarm;
 use calendar::Clock;
 use registers::{
     ALARM_DATE, ALARM_HOUR, ALARM_MINUTE, ALARM_MONTH, ALARM_SECOND, ALARM_WEEKDAY, CALIBRATION,
@@ -27,6 +27,9 @@ const RPT4: u8 = 128;
 const RPT5: u8 = 64;
 
 const RPT6: u8 = 64;
+
+// The value of an alarm field whose byte has a nibble above 9: no possible time.
+const NO_TIME: u32 = 255;
 
 // What a write to the registers leaves, and its refusal number.
 #[derive(Clone, Copy)]
@@ -168,21 +171,21 @@ pub fn with_clock(registers: [u8; 16], c: Clock) -> [u8; 16]
     ]
 }
 
-// An alarm field with its RPT bit.
-fn field(rpt: bool, b: u8) -> Field
+// An alarm field: not compared with its RPT bit set.
+fn field(rpt: bool, b: u8) -> Option<u32>
     ensures { result ≡ field_of rpt b }
 {
-    let value = number(b);
+    if rpt {
+        return None;
+    }
     if (b / 16 <= 9) & (b % 16 <= 9) {
-        return Field { any: rpt, value };
+        return Some(number(b));
     }
-    Field {
-        any: rpt,
-        value: 255,
-    }
+    Some(NO_TIME)
 }
 
 // The alarm that the registers hold.
+#[tactic(auto, unfolding(crate::specs::Alarm::alarm_of))]
 pub fn alarm_of(registers: [u8; 16]) -> Alarm
     ensures { result ≡ alarm_of registers }
 {
@@ -193,12 +196,12 @@ pub fn alarm_of(registers: [u8; 16]) -> Alarm
     let second = registers[ALARM_SECOND];
     let weekday = registers[ALARM_WEEKDAY];
     Alarm {
-        second: field(second / RPT1 % 2 == 1, second % 128),
-        minute: field(minute / RPT2 % 2 == 1, minute % 128),
-        hour: field(hour / RPT3 % 2 == 1, hour % 64),
-        date: field(date / RPT4 % 2 == 1, date % 64),
-        month: field(date / RPT5 % 2 == 1, month % 32),
-        weekday: field(hour / RPT6 % 2 == 1, weekday / 16 % 8),
+        second: field(common::bit(second, RPT1), second % 128),
+        minute: field(common::bit(minute, RPT2), minute % 128),
+        hour: field(common::bit(hour, RPT3), hour % 64),
+        date: field(common::bit(date, RPT4), date % 64),
+        month: field(common::bit(date, RPT5), month % 32),
+        weekday: field(common::bit(hour, RPT6), weekday / 16 % 8),
     }
 }
 
