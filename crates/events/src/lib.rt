@@ -19,6 +19,7 @@ ghost use Rattle.events.specs.Show.{shown_in};
 use command::Command;
 use controller::Power;
 use panel::Panel;
+use supply::Cut;
 use units::Seconds;
 
 // The panel in an image of 64 bytes.
@@ -98,7 +99,11 @@ pub fn return_supply(image: &mut [u8], n: Seconds)
     ensures { image.new ≡ encoded (panel_returned n.0 (decoded image.old)) }
 {
     let p = panel_in(image);
-    store(image, supply::first_kind::return_panel(p, n));
+    let cut = Cut {
+        rtc: p.core.rtc,
+        seconds: n,
+    };
+    store(image, supply::first_kind::return_panel(cut));
 }
 
 // The set protocol.

@@ -7,11 +7,11 @@ use Rattle.events.proofs.Laws.{return_stored}
 use borrow.Author.Rules.{rules}
 use Rattle.events.proofs.return_supply.Goals as goal
 
-pub return_panel-requires : goal.return_panel-requires
-return_panel-requires c =
+pub invariant_of-cut : goal.invariant_of-cut
+invariant_of-cut c =
     record {
       valid = subst (λ (p : Panel). Valid (clock_of p.core.rtc.registers)) (sym c.panel_in-p.ensures) c.requires.valid;
-      n_bound = c.requires.n_bound;
+      within = c.requires.n_bound;
     }
 
 pub returns : goal.returns
