@@ -100,7 +100,7 @@ impl Alarm {
     fn first_time(self, t: u32) -> u32
         ensures { result ≡ first_from (time_fits self) t (86_400 - t) }
     {
-        // No `for`: a step passes over a second, a minute or an hour.
+        // Kept as a `while`: a step passes over a second, a minute or an hour.
         let mut u = t;
         while u < 86_400 {
             if self.time_fits(u) {
@@ -111,7 +111,7 @@ impl Alarm {
         u
     }
 
-    // The first second from t on at which the day of c matches, or 86,400.
+    // The first second from t on at which the day of c matches, or 86,400, the number that `first_from` is where none does.
     pub fn first_on_day(self, c: Clock, t: u32) -> u32
         requires { t ≤ 86_400 }
         ensures { result ≡ first_from (λ u. matches self (at_time c u)) t (86_400 - t) }
@@ -122,7 +122,7 @@ impl Alarm {
         self.first_time(t)
     }
 
-    // The least k from 1 to n such that the clock moved on k seconds matches, or n + 1, where n are the span's: a walk over the days.
+    // The least k from 1 to n such that the clock moved on k seconds matches, or n + 1: a walk over the days.
     fn walk_days(self, span: Span) -> u32
         ensures { result ≡ first_reached (matches self) span.start span.seconds.0 }
     {
@@ -141,12 +141,14 @@ impl Alarm {
         n + 1
     }
 
-    // The least count of the seconds after which the clock matches, or one more than all of them; an impossible field costs no walk.
+    // The least count of the seconds after which the clock matches, or one more than all of them; no second and an impossible field cost no walk.
+    // Kept as a number and no Option: the clause says the number `first_reached`, which is one more where none matches.
     pub fn first_match(self, span: Span) -> Seconds
         ensures { result.0 ≡ first_reached (matches self) span.start span.seconds.0 }
     {
-        if !self.is_possible() {
-            return Seconds(span.seconds.0 + 1);
+        let n = span.seconds.0;
+        if (n == 0) | !self.is_possible() {
+            return Seconds(n + 1);
         }
         Seconds(self.walk_days(span))
     }

@@ -1,7 +1,7 @@
 // The calendar: leap years, months, the carry of a second and of a day, and moving on by a count of seconds.
 #![tactic(auto)]
 
-ghost use Rattle.std.specs.Prelude.{◌≡◌, ◌*◌, ◌+◌, cond};
+ghost use Rattle.std.specs.Prelude.{◌≡◌, ◌*◌, ◌+◌};
 ghost use Rattle.calendar.specs.Date.{leap, month_length};
 ghost use Rattle.calendar.specs.Clock.{Valid, time_of};
 ghost use Rattle.calendar.specs.Carry.{at_time, next_weekday, next_day, next};
@@ -33,19 +33,14 @@ pub fn is_leap(century: u32, year: u32) -> bool
     year % 100 % 4 == 0
 }
 
-fn february_length(leapyear: bool) -> u32
-    ensures { result ≡ cond leapyear 29 28 }
-{
-    if leapyear { 29 } else { 28 }
-}
-
 // The days of a month, counted from 1.
 #[tactic(auto, unfolding(crate::specs::Date::month_length))]
 pub fn month_length(leapyear: bool, month: u32) -> u32
     ensures { result ≡ month_length leapyear month }
 {
     match month {
-        2 => february_length(leapyear),
+        2 if leapyear => 29,
+        2 => 28,
         4 | 6 | 9 | 11 => 30,
         _ => 31,
     }

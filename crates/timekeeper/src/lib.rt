@@ -175,13 +175,9 @@ pub fn with_clock(registers: [u8; 16], c: Clock) -> [u8; 16]
 fn field(rpt: bool, b: u8) -> Option<u32>
     ensures { result ≡ field_of rpt b }
 {
-    if rpt {
-        return None;
-    }
-    if (b / 16 <= 9) & (b % 16 <= 9) {
-        return Some(number(b));
-    }
-    Some(NO_TIME)
+    let decimal = (b / 16 <= 9) & (b % 16 <= 9);
+    let value = if decimal { number(b) } else { NO_TIME };
+    if rpt { None } else { Some(value) }
 }
 
 // The alarm that the registers hold.
