@@ -1,33 +1,28 @@
 -- What fits and what does not: the fields of a day and of a time, hours and minutes passed over, impossible fields. Assumes nothing.
 use mathlib.Core.Path.{◌≡◌, refl, sym, ap, ◌∙◌}
-use mathlib.Core.Bool.{Bool, true, false, ◌&&◌, ◌||◌, and-true, and-false, true≢false}
+use mathlib.Core.Bool.{Bool, true, false, ◌&&◌, and_assoc, and-true, and-false, true≢false}
 use mathlib.Core.List.{[], ◌∷◌}
 use Prim.Native.Nat.{ℕ, ◌+◌, ◌*◌, ◌/◌, ◌%◌, ◌≤◌, ◌<◌}
 use native.Mathlib.Omega.{arith}
 use borrow.Author.Tests.{eqb-true, le-leb}
-use lib.Dec.{eqb, leb}
+use lib.Dec.{leb}
+use Rattle.std.specs.Prelude.{Option, None, Some}
 use Rattle.common.proofs.Choice.{of_cond, by_cases, and_both}
 use Rattle.common.proofs.Tests.{each, all_hold}
 use Rattle.common.proofs.Each.{done, ◌also◌}
-use Rattle.common.specs.Tests.{conj}
 use Rattle.calendar.specs.declared.Clock.{Clock}
 use Rattle.calendar.specs.Clock.{Valid}
 use Rattle.calendar.specs.Carry.{at_time}
 use Rattle.calendar.proofs.Date.{date_31}
-use Rattle.alarm.specs.declared.Field.{Field}
 use Rattle.alarm.specs.declared.Alarm.{Alarm}
 use Rattle.alarm.specs.Match.{fits, matches, time_fits, day_fits, in_range, possible}
 use Rattle.alarm.specs.Skip.{candidate_after}
 
 -- ---- the match of a second is that of its time and of its day
-split : (x d m w : Bool) → (((x && d) && m) && w) ≡ (x && ((d && m) && w))
-split true d m w = refl
-split false d m w = refl
-
 module _ (a : Alarm) (c : Clock) (t : ℕ) where
   match_split : matches a (at_time c t) ≡ (time_fits a t && day_fits a c)
   unfolding matches time_fits day_fits
-  match_split = split (conj (fits a.second (t % 60) ∷ fits a.minute (t / 60 % 60) ∷ fits a.hour (t / 3_600) ∷ [])) (fits a.date c.date) (fits a.month c.month) (fits a.weekday c.weekday)
+  match_split = simp and_assoc
 
   pub day_not : day_fits a c ≡ false → matches a (at_time c t) ≡ false
   day_not e = match_split ∙ ap (λ (b : Bool). time_fits a t && b) e ∙ and-false (time_fits a t)
@@ -36,24 +31,18 @@ module _ (a : Alarm) (c : Clock) (t : ℕ) where
   day_fit e = match_split ∙ ap (λ (b : Bool). time_fits a t && b) e ∙ and-true (time_fits a t)
 
 -- ---- hours, minutes and seconds that do not fit
-last_not : (s m h : Bool) → h ≡ false → ((s && m) && h) ≡ false
-last_not s m h e = ap (λ (b : Bool). (s && m) && b) e ∙ and-false (s && m)
-
-middle_not : (s m h : Bool) → m ≡ false → ((s && m) && h) ≡ false
-middle_not s m h e = ap (λ (b : Bool). (s && b) && h) e ∙ ap (λ (b : Bool). b && h) (and-false s)
-
 module _ (a : Alarm) (u : ℕ) where
   hour_not : fits a.hour (u / 3_600) ≡ false → (w : ℕ) → u ≤ w → w < (u / 3_600 + 1) * 3_600 → time_fits a w ≡ false
   unfolding time_fits
   hour_not e w l h =
       let q : w / 3_600 ≡ u / 3_600 = omega arith in
-      last_not (fits a.second (w % 60)) (fits a.minute (w / 60 % 60)) (fits a.hour (w / 3_600)) (ap (fits a.hour) q ∙ e)
+      simp (q, e, and-false)
 
   minute_not : fits a.minute (u / 60 % 60) ≡ false → (w : ℕ) → u ≤ w → w < (u / 60 + 1) * 60 → time_fits a w ≡ false
   unfolding time_fits
   minute_not e w l h =
       let q : w / 60 % 60 ≡ u / 60 % 60 = omega arith in
-      middle_not (fits a.second (w % 60)) (fits a.minute (w / 60 % 60)) (fits a.hour (w / 3_600)) (ap (fits a.minute) q ∙ e)
+      simp (q, e, and-false)
 
   -- nothing fits before the next candidate, which is later and on the same day or at its end
   pub candidate_none : time_fits a u ≡ false → (w : ℕ) → u ≤ w → w < candidate_after a u → time_fits a w ≡ false
@@ -75,15 +64,12 @@ module _ (a : Alarm) (u : ℕ) where
       P r = (u < r) × (r ≤ 86_400)
 
 -- ---- a field that is no possible time never matches
-fit_in : (f : Field) (lo hi x : ℕ) → lo ≤ x → x ≤ hi → fits f x ≡ true → in_range f lo hi ≡ true
+fit_in : (f : Option ℕ) (lo hi x : ℕ) → lo ≤ x → x ≤ hi → fits f x ≡ true → in_range f lo hi ≡ true
 unfolding fits in_range
-fit_in f lo hi x l h e = by f.any e
-  where
-    by : (b : Bool) → (b || eqb f.value x) ≡ true → (b || (leb lo f.value && leb f.value hi)) ≡ true
-    by true p = refl
-    by false p =
-        let q : f.value ≡ x = eqb-true f.value x p in
-        and_both (leb lo f.value) (leb f.value hi) (le-leb lo f.value (omega arith)) (le-leb f.value hi (omega arith))
+fit_in None lo hi x l h e = refl
+fit_in (Some v) lo hi x l h e =
+    let q : v ≡ x = eqb-true v x e in
+    and_both (leb lo v) (leb v hi) (le-leb lo v (omega arith)) (le-leb v hi (omega arith))
 
 match_possible : (a : Alarm) (c : Clock) → Valid c → matches a c ≡ true → possible a ≡ true
 unfolding matches possible

@@ -1,13 +1,13 @@
 -- Document 01, "Clock registers", "Alarm": six fields, each compared or not.
-use Rattle.std.specs.Prelude.{Bool, ◌&&◌, ◌||◌, [], ◌∷◌, ℕ, ◌/◌, ◌%◌, eqb, leb}
+use Rattle.std.specs.Prelude.{Bool, true, ◌&&◌, [], ◌∷◌, ℕ, ◌/◌, ◌%◌, eqb, leb, Option, None, Some}
 use Rattle.common.specs.Tests.{conj}
 use Rattle.calendar.specs.declared.Clock.{Clock}
-use Rattle.alarm.specs.declared.Field.{Field}
 use Rattle.alarm.specs.declared.Alarm.{Alarm}
 
 -- a field that is not compared, or that is equal
-unfoldable pub fits : Field → ℕ → Bool
-fits f x = f.any || eqb f.value x
+unfoldable pub fits : Option ℕ → ℕ → Bool
+fits None x = true
+fits (Some v) x = eqb v x
 
 -- the second matches: every field fits, in the order of RPT1 to RPT6
 unfoldable pub matches : Alarm → Clock → Bool
@@ -24,8 +24,9 @@ matches a c =
 -- ---- For the search, and no rule of document 01: laws say what they have to do with a match
 
 -- a field that is not compared, or that some time has
-unfoldable pub in_range : Field → ℕ → ℕ → Bool
-in_range f lo hi = f.any || (leb lo f.value && leb f.value hi)
+unfoldable pub in_range : Option ℕ → ℕ → ℕ → Bool
+in_range None lo hi = true
+in_range (Some v) lo hi = leb lo v && leb v hi
 
 -- every field is not compared or is a possible time
 unfoldable pub possible : Alarm → Bool

@@ -1,18 +1,20 @@
 // The calendar: leap years, months, the carry of a second and of a day, and moving on by a count of seconds.
 #![tactic(auto)]
 
-ghost use Rattle.std.specs.Prelude.{◌≡◌, ◌≤◌, ◌*◌, ◌+◌, cond};
+ghost use Rattle.std.specs.Prelude.{◌≡◌, ◌*◌, ◌+◌};
 ghost use Rattle.calendar.specs.Date.{leap, month_length};
-ghost use Rattle.calendar.specs.Clock.{limit, Valid, time_of, moved};
+ghost use Rattle.calendar.specs.Clock.{Valid, time_of};
 ghost use Rattle.calendar.specs.Carry.{at_time, next_weekday, next_day, next};
 
-use units::Seconds;
+mod span;
+
+pub use span::Span;
 
 // The longest time that is moved on at once, in seconds.
 pub const LIMIT: u32 = 31_622_400;
 
 // Century 0..3, year 00..99, month 1..12, date from 1, weekday 1..7, hour 0..23, minute and second 0..59.
-#[derive(Clone, Copy)]
+#[derive(Clone, Copy, PartialEq, Eq, Debug)]
 pub struct Clock {
     pub century: u32,
     pub year: u32,
@@ -31,18 +33,14 @@ pub fn is_leap(century: u32, year: u32) -> bool
     year % 100 % 4 == 0
 }
 
-fn february_length(leapyear: bool) -> u32
-    ensures { result ≡ cond leapyear 29 28 }
-{
-    if leapyear { 29 } else { 28 }
-}
-
 // The days of a month, counted from 1.
+#[tactic(auto, unfolding(crate::specs::Date::month_length))]
 pub fn month_length(leapyear: bool, month: u32) -> u32
     ensures { result ≡ month_length leapyear month }
 {
     match month {
-        2 => february_length(leapyear),
+        2 if leapyear => 29,
+        2 => 28,
         4 | 6 | 9 | 11 => 30,
         _ => 31,
     }
@@ -54,94 +52,106 @@ fn next_weekday(w: u32) -> u32
     if w < 7 { w + 1 } else { 1 }
 }
 
-// The next day at the same time: date, month, year and century carry.
-pub fn next_day(c: Clock) -> Clock
-    ensures { result ≡ next_day c }
-{
-    let leapyear = is_leap(c.century, c.year);
-    let length = month_length(leapyear, c.month);
-    let weekday = next_weekday(c.weekday);
-    let mut d = c;
-    d.weekday = weekday;
-    if c.date < length {
-        d.date = c.date + 1;
-        return d;
+impl Clock {
+    // The next day at the same time: date, month, year and century carry.
+    #[tactic(auto, unfolding(crate::specs::Carry::next_day))]
+    pub fn next_day(self) -> Clock
+        ensures { result ≡ next_day self }
+    {
+        let leapyear = is_leap(self.century, self.year);
+        let length = month_length(leapyear, self.month);
+        let weekday = next_weekday(self.weekday);
+        let day = Clock { weekday, ..self };
+        if self.date < length {
+            return Clock {
+                date: self.date + 1,
+                ..day
+            };
+        }
+        if self.month < 12 {
+            return Clock {
+                month: self.month + 1,
+                date: 1,
+                ..day
+            };
+        }
+        if self.year < 99 {
+            return Clock {
+                year: self.year + 1,
+                month: 1,
+                date: 1,
+                ..day
+            };
+        }
+        if self.century < 3 {
+            return Clock {
+                century: self.century + 1,
+                year: 0,
+                month: 1,
+                date: 1,
+                ..day
+            };
+        }
+        Clock {
+            century: 0,
+            year: 0,
+            month: 1,
+            date: 1,
+            ..day
+        }
     }
-    d.date = 1;
-    if c.month < 12 {
-        d.month = c.month + 1;
-        return d;
-    }
-    d.month = 1;
-    if c.year < 99 {
-        d.year = c.year + 1;
-        return d;
-    }
-    d.year = 0;
-    if c.century < 3 {
-        d.century = c.century + 1;
-        return d;
-    }
-    d.century = 0;
-    d
-}
 
-// The next second: second, minute and hour carry, and at midnight the day.
-pub fn next_second(mut c: Clock) -> Clock
-    ensures { result ≡ next c }
-{
-    if c.second < 59 {
-        c.second = c.second + 1;
-        return c;
+    // The next second: second, minute and hour carry, and at midnight the day.
+    #[tactic(auto, unfolding(crate::specs::Carry::next))]
+    pub fn next_second(self) -> Clock
+        ensures { result ≡ next self }
+    {
+        if self.second < 59 {
+            return Clock {
+                second: self.second + 1,
+                ..self
+            };
+        }
+        if self.minute < 59 {
+            return Clock {
+                minute: self.minute + 1,
+                second: 0,
+                ..self
+            };
+        }
+        if self.hour < 23 {
+            return Clock {
+                hour: self.hour + 1,
+                minute: 0,
+                second: 0,
+                ..self
+            };
+        }
+        Clock {
+            hour: 0,
+            minute: 0,
+            second: 0,
+            ..self.next_day()
+        }
     }
-    if c.minute < 59 {
-        c.minute = c.minute + 1;
-        c.second = 0;
-        return c;
-    }
-    if c.hour < 23 {
-        c.hour = c.hour + 1;
-        c.minute = 0;
-        c.second = 0;
-        return c;
-    }
-    let mut d = next_day(c);
-    d.hour = 0;
-    d.minute = 0;
-    d.second = 0;
-    d
-}
 
-// The second of the day.
-pub fn time_of(c: Clock) -> u32
-    requires { Valid c }
-    ensures { result ≡ time_of c }
-{
-    3_600 * c.hour + 60 * c.minute + c.second
-}
-
-// The same day, at the second t of the day.
-pub fn at_time(mut c: Clock, t: u32) -> Clock
-    ensures { result ≡ at_time c t }
-{
-    c.hour = t / 3_600;
-    c.minute = t / 60 % 60;
-    c.second = t % 60;
-    c
-}
-
-// The clock moved on n seconds: a walk over the midnights passed.
-pub fn move_on(c: Clock, n: Seconds) -> Clock
-    requires valid { Valid c }
-    requires n_bound { n.0 ≤ limit }
-    ensures { result ≡ moved c n.0 }
-{
-    let end = time_of(c) + n.0;
-    let mut left = end / 86_400;
-    let mut day = at_time(c, 0);
-    while left > 0 {
-        day = next_day(day);
-        left -= 1;
+    // The second of the day.
+    pub fn second_of_day(self) -> u32
+        requires { Valid self }
+        ensures { result ≡ time_of self }
+    {
+        3_600 * self.hour + 60 * self.minute + self.second
     }
-    at_time(day, end % 86_400)
+
+    // The same day, at the second t of the day.
+    pub fn at_time(self, t: u32) -> Clock
+        ensures { result ≡ at_time self t }
+    {
+        Clock {
+            hour: t / 3_600,
+            minute: t / 60 % 60,
+            second: t % 60,
+            ..self
+        }
+    }
 }

@@ -12,12 +12,10 @@ impl Core {
         ensures { result ≡ second_passed self }
     {
         let registers = self.rtc.registers;
-        let clock = calendar::next_second(timekeeper::clock_of(registers));
+        let clock = timekeeper::clock_of(registers).next_second();
         self.rtc.registers = timekeeper::with_clock(registers, clock);
         self.rtc.sixteenths = Sixteenths(0);
-        if registers::has_afe(registers)
-            & alarm::match_second(timekeeper::alarm_of(registers), clock)
-        {
+        if registers::has_afe(registers) & timekeeper::alarm_of(registers).match_second(clock) {
             self.rtc.flags |= ALARM_FLAG;
             return self.raise(Source::Rtc);
         }

@@ -1,13 +1,14 @@
 -- An alarm at one second of each day: whether one of n seconds reached matches, by one comparison. Assumes nothing.
 use Prim.Native.Nat.{ℕ, ◌+◌, ◌-◌, ◌*◌, ◌%◌, ◌≤◌, ◌<◌}
-use mathlib.Core.Path.{◌≡◌, refl, sym, ap, ◌∙◌}
-use mathlib.Core.Bool.{Bool, true, false, not, ◌||◌}
+use mathlib.Core.Path.{◌≡◌, refl, sym, ◌∙◌}
+use mathlib.Core.Bool.{Bool, true, false, false≢true}
 use mathlib.Core.Logic.{⊎_elim}
 use mathlib.Core.List.{List, [], ◌∷◌}
 use native.Mathlib.Omega.{arith}
-use borrow.Author.Tests.{eqb-true, not-true, eq-eqb, le-leb, lt-leb, leb-true}
+use borrow.Author.Tests.{eqb-true, eq-eqb, le-leb, lt-leb, leb-true}
 use lib.Dec.{eqb, leb}
 use lib.ListN.{get_or}
+use Rattle.std.specs.Prelude.{Option, None, Some, is_none, is_some, unwrap_or}
 use Rattle.common.specs.Tests.{conj}
 use Rattle.common.proofs.Order.{lt_or_le}
 use Rattle.common.proofs.Choice.{by_cases}
@@ -16,24 +17,27 @@ use Rattle.common.proofs.Tests.{each, all_hold}
 use Rattle.calendar.specs.declared.Clock.{Clock}
 use Rattle.calendar.specs.Clock.{Valid, time_of, moved}
 use Rattle.calendar.proofs.Moved.{moved_valid, time_moved}
-use Rattle.alarm.specs.declared.Field.{Field}
 use Rattle.alarm.specs.declared.Alarm.{Alarm}
 use Rattle.alarm.specs.Match.{fits, matches}
 use Rattle.alarm.specs.Reached.{any_reached}
 use Rattle.alarm.proofs.Reached.{any_none, any_some}
 
+-- the value of a field that is compared
+abbrev pub value : Option ℕ → ℕ
+value f = unwrap_or f 0
+
 -- the fields of the day are not compared, those of the time are, and are a time
 abbrev pub daily_tests : Alarm → List Bool
 daily_tests a =
-    a.date.any
-    ∷ a.month.any
-    ∷ a.weekday.any
-    ∷ not a.second.any
-    ∷ not a.minute.any
-    ∷ not a.hour.any
-    ∷ leb a.second.value 59
-    ∷ leb a.minute.value 59
-    ∷ leb a.hour.value 23
+    is_none a.date
+    ∷ is_none a.month
+    ∷ is_none a.weekday
+    ∷ is_some a.second
+    ∷ is_some a.minute
+    ∷ is_some a.hour
+    ∷ leb (value a.second) 59
+    ∷ leb (value a.minute) 59
+    ∷ leb (value a.hour) 23
     ∷ []
 
 abbrev pub daily : Alarm → Bool
@@ -41,36 +45,38 @@ daily a = conj (daily_tests a)
 
 -- its second of the day
 abbrev pub daily_second : Alarm → ℕ
-daily_second a = 3_600 * a.hour.value + 60 * a.minute.value + a.second.value
+daily_second a = 3_600 * value a.hour + 60 * value a.minute + value a.second
 
 -- the seconds from a clock to its next match
 abbrev pub seconds_to : Alarm → Clock → ℕ
 seconds_to a c = (86_399 + daily_second a - time_of c % 86_400) % 86_400 + 1
 
 -- ---- fields
-any_fits : (f : Field) (x : ℕ) → f.any ≡ true → fits f x ≡ true
+any_fits : (f : Option ℕ) (x : ℕ) → is_none f ≡ true → fits f x ≡ true
 unfolding fits
-any_fits f x e = ap (λ (b : Bool). b || eqb f.value x) e
+any_fits None x e = refl
+any_fits (Some v) x e = absurd (false≢true e)
 
-compared : (f : Field) (x : ℕ) → not f.any ≡ true → fits f x ≡ eqb f.value x
+compared : (f : Option ℕ) (x : ℕ) → is_some f ≡ true → fits f x ≡ eqb (value f) x
 unfolding fits
-compared f x e = ap (λ (b : Bool). b || eqb f.value x) (not-true f.any e)
+compared None x e = absurd (false≢true e)
+compared (Some v) x e = refl
 
 module _ (a : Alarm) (h : daily a ≡ true) where
   test : (i : ℕ) → get_or (daily_tests a) i true ≡ true
   test i = each (daily_tests a) h i
 
-  second_most : a.second.value ≤ 59
+  second_most : value a.second ≤ 59
   second_most = leb-true _ _ (test 6)
 
-  minute_most : a.minute.value ≤ 59
+  minute_most : value a.minute ≤ 59
   minute_most = leb-true _ _ (test 7)
 
-  hour_most : a.hour.value ≤ 23
+  hour_most : value a.hour ≤ 23
   hour_most = leb-true _ _ (test 8)
 
   time_tests : Clock → List Bool
-  time_tests c = eqb a.second.value c.second ∷ eqb a.minute.value c.minute ∷ eqb a.hour.value c.hour ∷ true ∷ true ∷ true ∷ []
+  time_tests c = eqb (value a.second) c.second ∷ eqb (value a.minute) c.minute ∷ eqb (value a.hour) c.hour ∷ true ∷ true ∷ true ∷ []
 
   -- a match is one of the time alone
   by_time : (c : Clock) → matches a c ≡ conj (time_tests c)
@@ -88,9 +94,9 @@ module _ (a : Alarm) (h : daily a ≡ true) where
   at_time_lem : (c : Clock) → Valid c → time_of c ≡ daily_second a → matches a c ≡ true
   unfolding time_tests
   at_time_lem c v e =
-      let o : a.hour.value ≡ c.hour = omega (arith, v.minute, v.second, second_most, minute_most) in
-      let m : a.minute.value ≡ c.minute = omega (arith, v.second, second_most) in
-      let s : a.second.value ≡ c.second = omega arith in
+      let o : value a.hour ≡ c.hour = omega (arith, v.minute, v.second, second_most, minute_most) in
+      let m : value a.minute ≡ c.minute = omega (arith, v.second, second_most) in
+      let s : value a.second ≡ c.second = omega arith in
       by_time c ∙ all_hold (time_tests c) (eq-eqb _ _ s also eq-eqb _ _ m also eq-eqb _ _ o also refl also refl also refl also done)
 
   off_time : (c : Clock) → (time_of c ≡ daily_second a → ⊥) → matches a c ≡ false
@@ -99,7 +105,7 @@ module _ (a : Alarm) (h : daily a ≡ true) where
       by_cases (matches a c ≡ false) (matches a c)
       (λ e.
       let held = each (time_tests c) (sym (by_time c) ∙ e) in
-      absurd (n (omega (arith, eqb-true a.second.value c.second (held 0), eqb-true a.minute.value c.minute (held 1), eqb-true a.hour.value c.hour (held 2)))))
+      absurd (n (omega (arith, eqb-true (value a.second) c.second (held 0), eqb-true (value a.minute) c.minute (held 1), eqb-true (value a.hour) c.hour (held 2)))))
       (λ e. e)
 
   -- one of the n seconds reached matches exactly if the next match is at most n away

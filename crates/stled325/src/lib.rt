@@ -9,6 +9,7 @@ ghost use Rattle.stled325.specs.Command.{command_call};
 
 use common::Refusal;
 use panel::Panel;
+use supply::Cut;
 use units::Seconds;
 
 // How many bytes show and lines write.

@@ -40,7 +40,8 @@ module _ (b x : ℕ) (h : x ≤ 99) where
 
   pub field_fits : (rpt : Bool) → fits (field_of rpt b) x ≡ (rpt || eqb b (bcd x))
   unfolding fits
-  field_fits rpt = ap (λ (t : Bool). rpt || t) (value_fits (decimal b) refl)
+  field_fits true = refl
+  field_fits false = value_fits (decimal b) refl
 
 -- a calendar that is written does not change the alarm
 pub with_alarm : (rs : List ℕ) (c : Clock) → alarm_of (with_clock rs c) ≡ alarm_of rs

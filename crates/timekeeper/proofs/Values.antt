@@ -12,12 +12,10 @@ use Rattle.common.proofs.Choice.{on_true, on_false, by_cases}
 use Rattle.common.proofs.Tests.{each}
 use Rattle.calendar.specs.declared.Clock.{Clock}
 use Rattle.calendar.specs.Date.{leap, month_length}
-use Rattle.alarm.specs.declared.Field.{Field}
-use Rattle.registers.specs.Names.{at, SECONDS, MINUTES, HOURS, WEEKDAY, DATE, MONTH, YEAR, ALARM_MONTH, ALARM_DATE, ALARM_HOUR, ALARM_MINUTE, ALARM_SECOND, ALARM_WEEKDAY}
+use Rattle.registers.specs.Names.{at, SECONDS, MINUTES, HOURS, WEEKDAY, DATE, MONTH, YEAR}
 use Rattle.registers.specs.Written.{written}
-use Rattle.timekeeper.specs.Bcd.{digits, bcd, decimal_tests, decimal}
+use Rattle.timekeeper.specs.Bcd.{digits, bcd, decimal_tests}
 use Rattle.timekeeper.specs.Clock.{field_bytes, clock_of, calendar_tests, last_date, valid_calendar, under_b7, under_b7_b6, with_clock}
-use Rattle.timekeeper.specs.Alarm.{field_of, alarm_of, rpt1, rpt2, rpt3, rpt4, rpt5, rpt6}
 
 pub clock_from : (rs : List ℕ) (century year month date weekday hour minute second : ℕ) → century ≡ at rs MONTH / 64 → year ≡ digits (at rs YEAR) → month ≡ digits (at rs MONTH % 64)
     → date ≡ digits (at rs DATE) → weekday ≡ digits (at rs WEEKDAY) → hour ≡ digits (at rs HOURS % 64) → minute ≡ digits (at rs MINUTES) → second ≡ digits (at rs SECONDS % 128)
@@ -81,15 +79,3 @@ unfolding with_clock
 with_from rs c s second minute h hour weekday date month year es e1 e2 eh e3 e4 e5 e6 e7 =
     λ i. at rs 0x00 ∷ (e1 ∙ ap (under_b7 (at rs SECONDS)) es) i ∷ e2 i ∷ (e3 ∙ ap (under_b7_b6 (at rs HOURS)) eh) i ∷ e4 i ∷ e5 i ∷ (c.century % 4 * 64 + e6 i % 64) ∷ e7 i ∷ spell 0x08 8 rs
 
-pub field_decimal : (rpt : Bool) (b x : ℕ) → x ≡ digits b → decimal b ≡ true → record { any = rpt; value = x } ≡ field_of rpt b
-field_decimal rpt b x ex e = λ i. record { any = rpt; value = (ex ∙ on_true (digits b) 255 e) i }
-
-pub field_other : (rpt : Bool) (b : ℕ) → decimal b ≡ false → record { any = rpt; value = 255 } ≡ field_of rpt b
-field_other rpt b e = λ i. record { any = rpt; value = on_false (digits b) 255 e i }
-
-pub alarm_from : (rs : List ℕ) (second minute hour date month weekday : Field) → second ≡ field_of (rpt1 rs) (at rs ALARM_SECOND % 128) → minute ≡ field_of (rpt2 rs) (at rs ALARM_MINUTE % 128)
-    → hour ≡ field_of (rpt3 rs) (at rs ALARM_HOUR % 64) → date ≡ field_of (rpt4 rs) (at rs ALARM_DATE % 64) → month ≡ field_of (rpt5 rs) (at rs ALARM_MONTH % 32)
-    → weekday ≡ field_of (rpt6 rs) (at rs ALARM_WEEKDAY / 16 % 8)
-    → record { second = second; minute = minute; hour = hour; date = date; month = month; weekday = weekday } ≡ alarm_of rs
-unfolding alarm_of
-alarm_from rs s n h d m w es en eh ed em ew = λ i. record { second = es i; minute = en i; hour = eh i; date = ed i; month = em i; weekday = ew i }

@@ -1,14 +1,17 @@
 -- The alarm in the registers (document 01, "Clock registers", "Alarm"). RPT1..RPT6 set means that the field is not compared.
-use Rattle.std.specs.Prelude.{ℕ, ◌/◌, ◌%◌, Bool, cond, List}
+use Rattle.std.specs.Prelude.{ℕ, ◌/◌, ◌%◌, Bool, cond, List, Option, None, Some}
 use Rattle.common.specs.Bits.{bit_set}
-use Rattle.alarm.specs.declared.Field.{Field}
 use Rattle.alarm.specs.declared.Alarm.{Alarm}
 use Rattle.registers.specs.Names.{at, ALARM_MONTH, ALARM_DATE, ALARM_HOUR, ALARM_MINUTE, ALARM_SECOND, ALARM_WEEKDAY}
 use Rattle.timekeeper.specs.Bcd.{decimal, digits}
 
--- a field with its RPT bit; 255, no possible time, where the byte has a nibble above 9
-abbrev pub field_of : Bool → ℕ → Field
-field_of rpt b = record { any = rpt; value = cond (decimal b) (digits b) 255 }
+-- the value of a field whose byte has a nibble above 9: no possible time
+abbrev pub no_time : ℕ
+no_time = 255
+
+-- a field with its RPT bit: not compared where it is set
+abbrev pub field_of : Bool → ℕ → Option ℕ
+field_of rpt b = cond rpt None (Some (cond (decimal b) (digits b) no_time))
 
 abbrev pub rpt1 : List ℕ → Bool
 rpt1 rs = bit_set (at rs ALARM_SECOND) 128

@@ -8,7 +8,7 @@ ghost use Rattle.timekeeper.specs.Clock.{field_bytes, clock_of, valid_calendar, 
 ghost use Rattle.timekeeper.specs.Alarm.{field_of, alarm_of};
 ghost use Rattle.timekeeper.specs.Commit.{committed};
 
-use alarm::{Alarm, Field};
+use alarm::Alarm;
 use calendar::Clock;
 use common::Refusal;
 use registers::{
@@ -28,6 +28,9 @@ const RPT4: u8 = 128;
 const RPT5: u8 = 64;
 
 const RPT6: u8 = 64;
+
+// The value of an alarm field whose byte has a nibble above 9: no possible time.
+const NO_TIME: u32 = 255;
 
 // The number that a byte's two digits write.
 fn number(b: u8) -> u32
@@ -162,21 +165,17 @@ pub fn with_clock(registers: [u8; 16], c: Clock) -> [u8; 16]
     ]
 }
 
-// An alarm field with its RPT bit.
-fn field(rpt: bool, b: u8) -> Field
+// An alarm field: not compared with its RPT bit set.
+fn field(rpt: bool, b: u8) -> Option<u32>
     ensures { result ≡ field_of rpt b }
 {
-    let value = number(b);
-    if (b / 16 <= 9) & (b % 16 <= 9) {
-        return Field { any: rpt, value };
-    }
-    Field {
-        any: rpt,
-        value: 255,
-    }
+    let decimal = (b / 16 <= 9) & (b % 16 <= 9);
+    let value = if decimal { number(b) } else { NO_TIME };
+    if rpt { None } else { Some(value) }
 }
 
 // The alarm that the registers hold.
+#[tactic(auto, unfolding(crate::specs::Alarm::alarm_of))]
 pub fn alarm_of(registers: [u8; 16]) -> Alarm
     ensures { result ≡ alarm_of registers }
 {
@@ -187,12 +186,12 @@ pub fn alarm_of(registers: [u8; 16]) -> Alarm
     let second = registers[ALARM_SECOND];
     let weekday = registers[ALARM_WEEKDAY];
     Alarm {
-        second: field(second / RPT1 % 2 == 1, second % 128),
-        minute: field(minute / RPT2 % 2 == 1, minute % 128),
-        hour: field(hour / RPT3 % 2 == 1, hour % 64),
-        date: field(date / RPT4 % 2 == 1, date % 64),
-        month: field(date / RPT5 % 2 == 1, month % 32),
-        weekday: field(hour / RPT6 % 2 == 1, weekday / 16 % 8),
+        second: field(common::bit(second, RPT1), second % 128),
+        minute: field(common::bit(minute, RPT2), minute % 128),
+        hour: field(common::bit(hour, RPT3), hour % 64),
+        date: field(common::bit(date, RPT4), date % 64),
+        month: field(common::bit(date, RPT5), month % 32),
+        weekday: field(common::bit(hour, RPT6), weekday / 16 % 8),
     }
 }
 

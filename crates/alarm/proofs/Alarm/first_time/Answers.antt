@@ -1,4 +1,4 @@
--- `alarm::first_time` meets its contract. The invariant: nothing fits from t up to u. Assumes nothing.
+-- `alarm::Alarm::first_time` meets its contract. The invariant: nothing fits from t up to u. Assumes nothing.
 use mathlib.Core.Path.{◌≡◌, sym, subst, ◌∙◌}
 use mathlib.Core.Bool.{true, false}
 use Prim.Native.Nat.{ℕ, ◌-◌, ◌<◌}
@@ -9,8 +9,8 @@ use Rattle.alarm.specs.Match.{time_fits}
 use Rattle.alarm.specs.Skip.{candidate_after}
 use Rattle.alarm.proofs.Search.{longer, first_is}
 use Rattle.alarm.proofs.Match.{candidate_none, candidate_range}
-use Rattle.alarm.proofs.first_time.Invariants.{Searched}
-use Rattle.alarm.proofs.first_time.Goals as goal
+use Rattle.alarm.proofs.Alarm.first_time.Invariants.{Searched}
+use Rattle.alarm.proofs.Alarm.first_time.Goals as goal
 
 module _ (a : Alarm) (t u : ℕ) (s : Searched a t u) where
   found : (u < 86_400 → time_fits a u ≡ true) → u ≡ first_from (time_fits a) t (86_400 - t)

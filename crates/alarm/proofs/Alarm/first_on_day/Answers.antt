@@ -1,4 +1,4 @@
--- `alarm::first_on_day` meets its contract. Assumes nothing.
+-- `alarm::Alarm::first_on_day` meets its contract. Assumes nothing.
 use mathlib.Core.Path.{◌≡◌, sym, ◌∙◌}
 use mathlib.Core.Bool.{Bool, true, false}
 use Prim.Native.Nat.{ℕ, ◌-◌, ◌≤◌}
@@ -10,8 +10,7 @@ use Rattle.alarm.specs.Search.{first_from}
 use Rattle.alarm.specs.Match.{matches, time_fits, day_fits}
 use Rattle.alarm.proofs.Search.{first_is, as_first}
 use Rattle.alarm.proofs.Match.{day_not, day_fit}
-use borrow.Author.Rules.{rules}
-use Rattle.alarm.proofs.first_on_day.Goals as goal
+use Rattle.alarm.proofs.Alarm.first_on_day.Goals as goal
 
 module _ (a : Alarm) (c : Clock) (t : ℕ) (l : t ≤ 86_400) (b : Bool) (e : b ≡ day_fits a c) where
   no_day : b ≡ false → 86_400 ≡ first_from (λ u. matches a (at_time c u)) t (86_400 - t)
@@ -26,15 +25,8 @@ module _ (a : Alarm) (c : Clock) (t : ℕ) (l : t ≤ 86_400) (b : Bool) (e : b 
       first_is (λ u. matches a (at_time c u)) t (86_400 - t) r
       (record { low = g.low; high = g.high; none = λ u i j. day_fit a c u y ∙ g.none u i j; found = λ h. day_fit a c r y ∙ g.found h })
 
-pub day_fits-requires : goal.day_fits-requires
-day_fits-requires c = search rules
-
 pub returns-then-not-day_fits : goal.returns-then-not-day_fits
-returns-then-not-day_fits c = no_day c.args.a c.args.c c.args.t c.requires _ c.day_fits.ensures c.if-not-day_fits.true
-
-pub first_time-requires : goal.first_time-requires
-first_time-requires c = search rules
+returns-then-not-day_fits c = no_day c.args.self c.args.c c.args.t c.requires _ c.day_fits.ensures c.if-not-day_fits.true
 
 pub returns : goal.returns
-returns c =
-    the_day c.args.a c.args.c c.args.t c.requires _ c.day_fits.ensures _ c.if-not-day_fits.false c.first_time.ensures
+returns c = the_day c.args.self c.args.c c.args.t c.requires _ c.day_fits.ensures _ c.if-not-day_fits.false c.first_time.ensures

@@ -1,8 +1,0 @@
--- `alarm::day_fits` meets its contract. Assumes nothing.
-use mathlib.Core.Bool.{◌&&◌}
-use Rattle.alarm.specs.Match.{day_fits}
-use Rattle.alarm.proofs.day_fits.Goals as goal
-
-pub returns : goal.returns
-unfolding day_fits
-returns c = λ i. (c.field_fits.ensures i && c.field_fits-2.ensures i) && c.field_fits-3.ensures i
