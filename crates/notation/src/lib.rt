@@ -11,8 +11,8 @@ use common::byte_or;
 const LENT: usize = 65;
 
 // A text as far as it was read: the place where the next byte goes, the number that the last five bytes make, also if their digits are decimal,
-// the first digit of a pair that is not whole yet, whether that pair is a place, and whether all could be read. Bytes are stored behind what could
-// not be read too, so a reading has all of this then.
+// the first digit of a pair that is not whole yet, whether that pair is a place, and whether all could be read.
+// Kept as flags: `place`, since @ stands before a pair's digits or between them; `readable`, since the bytes behind what cannot be read are stored too.
 #[derive(Clone, Copy)]
 pub struct Reading {
     pub at: usize,

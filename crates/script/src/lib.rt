@@ -12,12 +12,12 @@ use stled325::{
     stled325_remote_frame, stled325_show, stled325_supply_return, stled325_tick, stled325_wake_up,
 };
 
-// Why a line did nothing.
+// Why the call of a line failed.
 #[derive(Clone, Copy, Debug, PartialEq, Eq)]
 pub enum Failure {
-    // It writes no call.
+    // The line writes no call.
     NoCall,
-    // Its call refused, with this number.
+    // The call refused, with this number.
     Refused(u32),
 }
 
@@ -55,7 +55,8 @@ fn ticks(image: &mut [u8], n: u32) -> Result<(), Failure>
     Ok(())
 }
 
-// A command of the bytes that are written. They stand in an array, since a Vec could fail where this cannot.
+// A command of the bytes that are written.
+// Kept: the bytes stand in an array, since a Vec could fail where this cannot.
 #[tactic(auto, unfolding(crate::specs::Script::command_made))]
 fn command(image: &mut [u8], out: &mut [u8], line: &[u8]) -> Result<(), Failure>
     ensures { outcome (result_number result) image.new out.new ≡ command_made line.now image.old out.old }
