@@ -36,7 +36,7 @@ impl<W: Write> Examples<W> {
         Ok(())
     }
 
-    // A line that did not go as written prints.
+    // A line that did not go as written prints, and its example fails.
     fn fail(&mut self, line: &[u8]) -> io::Result<()> {
         self.passing = false;
         self.out.write_all(b" FAILED\n  ")?;
@@ -86,7 +86,7 @@ impl<W: Write> Examples<W> {
         self.print_got(b"  got | ", after)
     }
 
-    // Changes the image.
+    // Changes the image as the line says.
     fn given(&mut self, line: &[u8]) -> io::Result<()> {
         let changes = Part {
             line,
