@@ -1,14 +1,16 @@
 -- The parts of a line: what each way out of the functions gives. Assumes nothing.
-use Prim.Native.Nat.{ℕ, ◌+◌, ◌-◌, ◌≤◌, ◌<◌}
+use Prim.Native.Nat.{ℕ, ◌+◌, ◌≤◌, ◌<◌}
 use native.Mathlib.Numerals.{add-one}
 use native.Mathlib.Omega.{arith}
-use mathlib.Core.Path.{◌≡◌, sym, ap, ◌∙◌}
+use mathlib.Core.Path.{◌≡◌, refl, sym, ap, ◌∙◌}
 use mathlib.Core.Bool.{Bool, true, false, not, ◌||◌}
-use mathlib.Core.List.{List, ◌∷◌}
-use lib.Dec.{ltb}
+use mathlib.Core.List.{List, [], ◌∷◌}
+use lib.Dec.{eqb, ltb}
 use lib.ListN.{length, get_or, take, drop, drop_of_length-le}
 use lib.Seq.{take-length, drop-cons}
 use borrow.Author.Tests.{lt-ltb, le-ltb, eq-eqb, ne_eqb}
+use Rattle.std.specs.Cmp.Lexicographic.{pointwise}
+use Rattle.std.specs.Prelude.{Some, None, unwrap_or}
 use Rattle.common.proofs.Choice.{on_true, on_false, past}
 use Rattle.notation.specs.declared.Reading.{Reading}
 use Rattle.notation.specs.Reading.{start, read_all, filled}
@@ -30,11 +32,11 @@ module _ (from to : ℕ) (line text : List ℕ) (e : text ≡ part from to line)
     as_read : s ≡ part_read from to line
     as_read = f ∙ ap (read_all start) e
 
-    pub end_read : s.readable ≡ true → s.at ≡ end_of from to line
+    pub end_read : s.readable ≡ true → Some s.at ≡ end_of from to line
     unfolding end_of
     end_read h = on_true _ _ h ∙ ap end_by as_read
 
-    pub end_unread : s.readable ≡ false → 1000 ≡ end_of from to line
+    pub end_unread : s.readable ≡ false → None ≡ end_of from to line
     unfolding end_of
     end_unread h = on_false _ _ h ∙ ap end_by as_read
 
@@ -43,21 +45,25 @@ module _ (from to : ℕ) (line text : List ℕ) (e : text ≡ part from to line)
       unfolding number_of
       number_by_lem = ap (number_by decimal) as_read
 
-      pub number_unread : (not s.readable || ltb 5 s.at) ≡ true → 4_294_967_296 ≡ number_of from to decimal line
+      pub number_unread : (not s.readable || ltb 5 s.at) ≡ true → None ≡ number_of from to decimal line
       number_unread h = on_true _ _ h ∙ number_by_lem
 
       module _ (h : (not s.readable || ltb 5 s.at) ≡ false) where
-        pub number_decimal : decimal ≡ true → s.decimal ≡ number_of from to decimal line
-        number_decimal k = past _ _ h (on_true _ _ k) ∙ number_by_lem
+        pub number_decimal : decimal ≡ true → Some s.decimal ≡ number_of from to decimal line
+        number_decimal k = past _ _ h (ap Some (on_true _ _ k)) ∙ number_by_lem
 
-        pub number_hexadecimal : decimal ≡ false → s.number ≡ number_of from to decimal line
-        number_hexadecimal k = past _ _ h (on_false _ _ k) ∙ number_by_lem
+        pub number_hexadecimal : decimal ≡ false → Some s.number ≡ number_of from to decimal line
+        number_hexadecimal k = past _ _ h (ap Some (on_false _ _ k)) ∙ number_by_lem
 
 -- ---- an answer that ends at n
-module _ (line : List ℕ) (n : ℕ) (e : n ≡ end_of 62 124 line) where
+pub end_none : (line : List ℕ) → None ≡ end_of 62 124 line → 66 ≡ answer_end line
+unfolding answer_end
+end_none line e = ap (λ o. end_within (unwrap_or o 66)) e
+
+module _ (line : List ℕ) (n : ℕ) (e : Some n ≡ end_of 62 124 line) where
   end_by_lem : end_within n ≡ answer_end line
   unfolding answer_end
-  end_by_lem = ap end_within e
+  end_by_lem = ap (λ o. end_within (unwrap_or o 66)) e
 
   pub end_first : n < 1 → 1 ≡ answer_end line
   end_first h = on_true _ _ (lt-ltb n 1 h) ∙ end_by_lem
@@ -67,6 +73,16 @@ module _ (line : List ℕ) (n : ℕ) (e : n ≡ end_of 62 124 line) where
 
   pub end_inside : 1 ≤ n → n ≤ 66 → n ≡ answer_end line
   end_inside h k = past _ _ (le-ltb n 1 h) (on_false _ _ (le-ltb 66 n k)) ∙ end_by_lem
+
+-- ---- two lists of one length, as `==` compares them
+pub same_if_equal : (a b : List ℕ) → length a ≡ length b → pointwise eqb a b ≡ same a b
+unfolding same
+same_if_equal [] [] h = refl
+same_if_equal [] (y ∷ b) h = grind arith
+same_if_equal (x ∷ a) [] h = refl
+same_if_equal (x ∷ a) (y ∷ b) h =
+    let rest : pointwise eqb a b ≡ same a b = same_if_equal a b (grind arith) in
+    grind arith
 
 -- ---- two lists from a place on
 module _ (a b : List ℕ) (i : ℕ) where
@@ -90,9 +106,13 @@ module _ (a b : List ℕ) (i : ℕ) where
   same_end h f = ap (λ (l : List ℕ). same l (drop i b)) (sym (drop_of_length-le a h)) ∙ f
 
 -- ---- bytes that a part leaves, up to n
-module _ (from to : ℕ) (line : List ℕ) (n : ℕ) (e : n ≡ end_of from to line) (bytes next got : List ℕ)
+pub unread_written : (from to : ℕ) (line bytes got : List ℕ) → None ≡ end_of from to line → false ≡ is_written from to line bytes got
+unfolding is_written
+unread_written from to line bytes got e = ap (λ o. is_filled o (filled start (part from to line) bytes) got) e
+
+module _ (from to : ℕ) (line : List ℕ) (n : ℕ) (e : Some n ≡ end_of from to line) (bytes next got : List ℕ)
     (f : next ≡ filled start (part from to line) bytes) where
-  written_by : is_filled n next got ≡ is_written from to line bytes got
+  written_by : is_filled (Some n) next got ≡ is_written from to line bytes got
   unfolding is_written
   written_by = λ i. is_filled (e i) (f i) got
 

@@ -1,52 +1,55 @@
 -- The next character of a text: what it makes of the reading and of the bytes. Assumes nothing.
-use Prim.Native.Nat.{ℕ, ◌+◌, ◌*◌, ◌%◌, ◌≤◌, ◌<◌}
+use Prim.Native.Nat.{ℕ, ◌+◌, ◌≤◌, ◌<◌}
 use native.Mathlib.Numerals.{add-one}
+use native.Mathlib.Omega.{arith}
 use mathlib.Core.Path.{◌≡◌, sym, ap, ◌∙◌}
-use mathlib.Core.Bool.{true, false, cond, not, ◌&&◌}
+use mathlib.Core.Bool.{true, false}
 use mathlib.Core.List.{List, ◌∷◌}
-use lib.Dec.{ltb}
 use lib.ListN.{length, get_or, set, drop, drop_of_length-le}
 use lib.Seq.{drop-cons}
 use borrow.Author.Tests.{lt-ltb, le-ltb, eq-eqb, ne_eqb}
-use Rattle.common.proofs.Choice.{on_true, on_false, past}
+use Rattle.std.specs.Prelude.{Some, None}
+use Rattle.common.proofs.Choice.{on_true, on_false}
 use Rattle.notation.specs.declared.Reading.{Reading}
-use Rattle.notation.specs.Reading.{digit_of, reading, digit_read, gap_read, read, stored, read_all, filled}
+use Rattle.notation.specs.Reading.{digit_of, reading, byte_of, digit_read, gap_read, read_as, read, stored_as, stored, read_all, filled}
 
--- ---- one character, d being the value of its digit
-module _ (s : Reading) (c d : ℕ) (e : d ≡ digit_of c) where
-  digit_test : ltb (digit_of c) 16 ≡ ltb d 16
-  digit_test = ap (λ (n : ℕ). ltb n 16) (sym e)
-
-  pub by_digit : {r : Reading} → d < 16 → r ≡ digit_read s d → r ≡ read s c
+-- ---- one character, which is the digit d
+module _ (s : Reading) (c d : ℕ) (e : Some d ≡ digit_of c) where
+  pub by_digit : {r : Reading} → r ≡ digit_read s d → r ≡ read s c
   unfolding read
-  by_digit h f = f ∙ ap (digit_read s) e ∙ on_true _ _ (digit_test ∙ lt-ltb d 16 h)
+  by_digit f = f ∙ ap (read_as s c) e
 
-  pub by_place : 16 ≤ d → c ≡ 64 → reading s.at s.number s.decimal s.high true s.readable ≡ read s c
-  unfolding read
-  by_place h f = past _ _ (digit_test ∙ le-ltb d 16 h) (on_true _ _ (eq-eqb c 64 f))
-
-  pub by_gap : {r : Reading} → 16 ≤ d → (c ≡ 64 → ⊥) → r ≡ gap_read s c → r ≡ read s c
-  unfolding read
-  by_gap h n f = past _ _ (digit_test ∙ le-ltb d 16 h) (past _ _ (ne_eqb c 64 n) f)
-
-  module _ (bytes : List ℕ) where
-    -- the test and the byte by d
-    by_value : cond (ltb d 16 && ltb s.high 16 && not s.place)
-        (cond (ltb s.at (length bytes)) (set bytes s.at (s.high % 16 * 16 + d % 16)) bytes) bytes ≡ stored s c bytes
+  module _ (high : ℕ) (f : Some high ≡ s.high) (bytes : List ℕ) where
+    as_pair : stored_as s (Some high) (Some d) bytes ≡ stored s c bytes
     unfolding stored
-    by_value =
-        ap (λ (n : ℕ). cond (ltb n 16 && ltb s.high 16 && not s.place)
-        (cond (ltb s.at (length bytes)) (set bytes s.at (s.high % 16 * 16 + n % 16)) bytes) bytes) e
+    as_pair = λ i. stored_as s (f i) (e i) bytes
 
-    module _ (h : (ltb d 16 && ltb s.high 16 && not s.place) ≡ true) where
-      pub stored_in : s.at < length bytes → set bytes s.at (s.high % 16 * 16 + d % 16) ≡ stored s c bytes
-      stored_in l = on_true _ _ (lt-ltb s.at (length bytes) l) ∙ on_true _ _ h ∙ by_value
+    pub stored_in : s.place ≡ false → s.at < length bytes → set bytes s.at (byte_of high d) ≡ stored s c bytes
+    stored_in h l = on_true _ _ (lt-ltb s.at (length bytes) l) ∙ on_false _ _ h ∙ as_pair
 
-      pub stored_beyond : length bytes ≤ s.at → bytes ≡ stored s c bytes
-      stored_beyond l = on_false _ _ (le-ltb s.at (length bytes) l) ∙ on_true _ _ h ∙ by_value
+    pub stored_beyond : s.place ≡ false → length bytes ≤ s.at → bytes ≡ stored s c bytes
+    stored_beyond h l = on_false _ _ (le-ltb s.at (length bytes) l) ∙ on_false _ _ h ∙ as_pair
 
-    pub stored_none : (ltb d 16 && ltb s.high 16 && not s.place) ≡ false → bytes ≡ stored s c bytes
-    stored_none h = on_false _ _ h ∙ by_value
+    pub stored_place : s.place ≡ true → bytes ≡ stored s c bytes
+    stored_place h = on_true _ _ h ∙ as_pair
+
+  pub stored_first : None ≡ s.high → (bytes : List ℕ) → bytes ≡ stored s c bytes
+  unfolding stored
+  stored_first f bytes = λ i. stored_as s (f i) (digit_of c) bytes
+
+-- ---- one character, which is no digit
+module _ (s : Reading) (c : ℕ) (e : None ≡ digit_of c) where
+  pub by_place : c ≡ 64 → reading s.at s.number s.decimal s.high true s.readable ≡ read s c
+  unfolding read
+  by_place f = on_true _ _ (eq-eqb c 64 f) ∙ ap (read_as s c) e
+
+  pub by_gap : {r : Reading} → (c ≡ 64 → ⊥) → r ≡ gap_read s c → r ≡ read s c
+  unfolding read
+  by_gap n f = f ∙ on_false _ _ (ne_eqb c 64 n) ∙ ap (read_as s c) e
+
+  pub stored_none : (bytes : List ℕ) → bytes ≡ stored s c bytes
+  unfolding stored
+  stored_none bytes = grind arith
 
 -- ---- the text from a place on
 module _ (s : Reading) (text : List ℕ) (i : ℕ) (h : i < length text) where

@@ -1,5 +1,5 @@
 -- A line of the worked examples, and what its parts write. No rule of document 01 is here.
-use Rattle.std.specs.Prelude.{ℕ, ◌-◌, Bool, true, false, cond, not, ◌||◌, List, [], ◌∷◌, eqb, ltb, take, drop}
+use Rattle.std.specs.Prelude.{ℕ, ◌-◌, Bool, true, false, cond, not, ◌||◌, List, [], ◌∷◌, eqb, ltb, take, drop, Option, Some, None, unwrap_or}
 use Rattle.std.specs.List.{position_or_len}
 use Rattle.notation.specs.declared.Reading.{Reading}
 use Rattle.notation.specs.Reading.{start, read_all, filled}
@@ -22,18 +22,18 @@ part from to line = part_to from (index_of to line) line
 abbrev pub part_read : ℕ → ℕ → List ℕ → Reading
 part_read from to line = read_all start (part from to line)
 
-abbrev pub end_by : Reading → ℕ
-end_by s = cond s.readable s.at 1000
+abbrev pub end_by : Reading → Option ℕ
+end_by s = cond s.readable (Some s.at) None
 
--- the place behind the last byte of a part, or 1000 if it cannot be read
-unfoldable pub end_of : ℕ → ℕ → List ℕ → ℕ
+-- the place behind the last byte of a part, or none if it cannot be read
+unfoldable pub end_of : ℕ → ℕ → List ℕ → Option ℕ
 end_of from to line = end_by (part_read from to line)
 
-abbrev pub number_by : Bool → Reading → ℕ
-number_by decimal s = cond (not s.readable || ltb 5 s.at) 4_294_967_296 (cond decimal s.decimal s.number)
+abbrev pub number_by : Bool → Reading → Option ℕ
+number_by decimal s = cond (not s.readable || ltb 5 s.at) None (Some (cond decimal s.decimal s.number))
 
--- the number that a part of at most five bytes makes; else more than 32 bits hold
-unfoldable pub number_of : ℕ → ℕ → Bool → List ℕ → ℕ
+-- the number that a part of at most five bytes makes
+unfoldable pub number_of : ℕ → ℕ → Bool → List ℕ → Option ℕ
 number_of from to decimal line = number_by decimal (part_read from to line)
 
 abbrev pub end_within : ℕ → ℕ
@@ -41,7 +41,7 @@ end_within n = cond (ltb n 1) 1 (cond (ltb 66 n) 66 n)
 
 -- the end of the answer, which stands from > up to |, at least 1 and at most 66
 unfoldable pub answer_end : List ℕ → ℕ
-answer_end line = end_within (end_of 62 124 line)
+answer_end line = end_within (unwrap_or (end_of 62 124 line) 66)
 
 -- whether a list goes on like another
 unfoldable pub same : List ℕ → List ℕ → Bool
@@ -49,8 +49,9 @@ same [] b = true
 same (x ∷ a) [] = false
 same (x ∷ a) (y ∷ b) = cond (eqb x y) (same a b) false
 
-abbrev pub is_filled : ℕ → List ℕ → List ℕ → Bool
-is_filled end bytes got = cond (ltb 66 end) false (same got bytes)
+abbrev pub is_filled : Option ℕ → List ℕ → List ℕ → Bool
+is_filled None bytes got = false
+is_filled (Some end) bytes got = cond (ltb 66 end) false (same got bytes)
 
 -- whether what was got is what a part makes of the bytes
 unfoldable pub is_written : ℕ → ℕ → List ℕ → List ℕ → List ℕ → Bool

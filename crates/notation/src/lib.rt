@@ -3,108 +3,99 @@
 
 ghost use Rattle.std.specs.Prelude.{◌≡◌, ◌+◌, ◌*◌, ◌/◌, ◌%◌, ◌≤◌, min, length, get_or, set};
 ghost use Rattle.notation.specs.Reading.{digit_of, start, pair_read, digit_read, gap_read, read, stored, read_all, filled};
-ghost use Rattle.notation.specs.Line.{index_of, part, end_of, answer_end, number_of, same, is_written};
+ghost use Rattle.notation.specs.Line.{index_of, part, end_of, answer_end, number_of, is_written};
 
-use common::{byte_or, shorter};
-
-// What is no digit.
-const NONE: u8 = 16;
+use common::byte_or;
 
 // The place of an image that has the number of the bytes lent.
 const LENT: usize = 65;
 
-// The end of what cannot be read.
-const UNREADABLE: usize = 1_000;
-
-// What is no number of 32 bits.
-const NO_NUMBER: u64 = 4_294_967_296;
-
 // A text as far as it was read: the place where the next byte goes, the number that the last five bytes make, also if their digits are decimal,
 // the first digit of a pair that is not whole yet, whether that pair is a place, and whether all could be read.
+// Kept as flags: `place`, since @ stands before a pair's digits or between them; `readable`, since the bytes behind what cannot be read are stored too.
 #[derive(Clone, Copy)]
 pub struct Reading {
     pub at: usize,
     pub number: u64,
     pub decimal: u64,
-    pub high: u8,
+    pub high: Option<u8>,
     pub place: bool,
     pub readable: bool,
 }
 
 // The value of a hexadecimal digit.
 #[tactic(auto, unfolding(crate::specs::Reading::digit_of))]
-fn digit(c: u8) -> u8
+fn digit(c: u8) -> Option<u8>
     ensures { result ≡ digit_of c }
 {
-    if c < b'0' {
-        return NONE;
+    match c {
+        b'0'..=b'9' => Some(c - b'0'),
+        b'A'..=b'F' => Some(c - b'A' + 10),
+        _ => None,
     }
-    if c <= b'9' {
-        return c - b'0';
-    }
-    if c < b'A' {
-        return NONE;
-    }
-    if c <= b'F' {
-        return c - b'A' + 10;
-    }
-    NONE
 }
 
 impl Reading {
     // A pair of digits is whole: a place in decimal, or a byte.
-    fn read_pair(mut self, value: u8) -> Reading
+    fn read_pair(self, value: u8) -> Reading
         ensures { result ≡ pair_read self value }
     {
         let digits = value / 16 * 10 + value % 16;
-        self.high = NONE;
         if self.place {
-            self.place = false;
-            self.at = digits as usize;
-            return self;
+            return Reading {
+                at: usize::from(digits),
+                high: None,
+                place: false,
+                ..self
+            };
         }
-        self.at = self.at % 256 + 1;
-        self.number = self.number % 4_294_967_296 * 256 + (value as u64);
-        self.decimal = self.decimal % 4_294_967_296 * 100 + (digits as u64);
-        self
+        Reading {
+            at: self.at % 256 + 1,
+            number: self.number % 4_294_967_296 * 256 + u64::from(value),
+            decimal: self.decimal % 4_294_967_296 * 100 + u64::from(digits),
+            high: None,
+            ..self
+        }
     }
 
-    fn read_digit(mut self, d: u8) -> Reading
+    fn read_digit(self, d: u8) -> Reading
         ensures { result ≡ digit_read self d }
     {
-        let high = self.high;
-        if high < NONE {
-            return self.read_pair(high % 16 * 16 + d % 16);
+        match self.high {
+            Some(high) => self.read_pair(high % 16 * 16 + d % 16),
+            None => Reading {
+                high: Some(d),
+                ..self
+            },
         }
-        self.high = d;
-        self
     }
 
     // A space or a mark between the parts of a line ends a pair, which has to be whole.
-    fn read_gap(mut self, c: u8) -> Reading
+    fn read_gap(self, c: u8) -> Reading
         ensures { result ≡ gap_read self c }
     {
-        let gap = (c == b' ') | (c == b'-') | (c == b'>') | (c == b'|');
-        self.readable = self.readable & gap & (self.high == NONE) & !self.place;
-        self.high = NONE;
-        self.place = false;
-        self
+        let gap = matches!(c, b' ' | b'-' | b'>' | b'|');
+        Reading {
+            high: None,
+            place: false,
+            readable: self.readable & gap & self.high.is_none() & !self.place,
+            ..self
+        }
     }
 
     // The next character is read.
     #[tactic(auto, unfolding(crate::specs::Reading::read))]
-    fn read(mut self, c: u8) -> Reading
+    fn read(self, c: u8) -> Reading
         ensures { result ≡ read self c }
     {
-        let d = digit(c);
-        if d < NONE {
-            return self.read_digit(d);
+        match digit(c) {
+            Some(d) => self.read_digit(d),
+            None if c == b'@' => Reading {
+                place: true,
+                ..self
+            },
+            None => self.read_gap(c),
         }
-        if c == b'@' {
-            self.place = true;
-            return self;
-        }
-        self.read_gap(c)
     }
 }
 
@@ -113,12 +104,10 @@ impl Reading {
 fn store(bytes: &mut [u8], s: Reading, c: u8)
     ensures { bytes.new ≡ stored s c bytes.old }
 {
-    let d = digit(c);
-    let at = s.at;
-    if (d < NONE) & (s.high < NONE) & !s.place {
-        if at < bytes.len() {
-            bytes[at] = s.high % 16 * 16 + d % 16;
-        }
+    if let (Some(high), Some(d), false) = (s.high, digit(c), s.place)
+        && s.at < bytes.len()
+    {
+        bytes[s.at] = high % 16 * 16 + d % 16;
     }
 }
 
@@ -132,16 +121,13 @@ fn read_all(bytes: &mut [u8], text: &[u8]) -> Reading
         at: 0,
         number: 0,
         decimal: 0,
-        high: NONE,
+        high: None,
         place: false,
         readable: true,
     };
-    let mut i = 0;
-    while i < text.len() {
-        let c = text[i];
+    for &c in text {
         store(bytes, s, c);
         s = s.read(c);
-        i += 1;
     }
     s.read(b' ')
 }
@@ -155,44 +141,50 @@ pub fn index_of(text: &[u8], b: u8) -> usize
 }
 
 // The part of a line from one mark up to another, or to the end.
-#[tactic(auto, unfolding(crate::specs::Line::part))]
-fn part<'a>(line: &'a [u8], from: u8, to: u8) -> &'a [u8]
-    ensures { result.now ≡ part from to line.now }
-{
-    let end = index_of(line, to);
-    let start = index_of(&line[..end], from);
-    &line[start..end]
+#[derive(Clone, Copy)]
+pub struct Part<'a> {
+    pub line: &'a [u8],
+    pub from: u8,
+    pub to: u8,
 }
 
-// Puts the bytes of a part of a line into a slice. The answer is the place behind the last of them.
-#[tactic(auto, unfolding(crate::specs::Line::end_of))]
-pub fn fill(bytes: &mut [u8], line: &[u8], from: u8, to: u8) -> usize
-    ensures value { result ≡ end_of from to line.now }
-    ensures bytes_after { bytes.new ≡ filled start (part from to line.now) bytes.old }
-{
-    let text = part(line, from, to);
-    let read = read_all(bytes, text);
-    if read.readable {
-        return read.at;
+impl<'a> Part<'a> {
+    #[tactic(auto, unfolding(crate::specs::Line::part))]
+    fn text(self) -> &'a [u8]
+        ensures { result.now ≡ part self.entry.from self.entry.to self.entry.line.now }
+    {
+        let end = index_of(self.line, self.to);
+        let start = index_of(&self.line[..end], self.from);
+        &self.line[start..end]
     }
-    UNREADABLE
-}
 
-// The number that at most five bytes of a part of a line make.
-#[tactic(auto, unfolding(crate::specs::Line::number_of))]
-pub fn number(line: &[u8], from: u8, to: u8, decimal: bool) -> u64
-    ensures { result ≡ number_of from to decimal line.now }
-{
-    let mut bytes = [0u8; 5];
-    let text = part(line, from, to);
-    let read = read_all(&mut bytes, text);
-    if !read.readable | (read.at > 5) {
-        return NO_NUMBER;
+    // Puts the bytes of the part into a slice. The answer is the place behind the last of them, and none if the part cannot be read.
+    #[tactic(auto, unfolding(crate::specs::Line::end_of))]
+    pub fn fill(self, bytes: &mut [u8]) -> Option<usize>
+        ensures value { result ≡ end_of self.entry.from self.entry.to self.entry.line.now }
+        ensures bytes_after { bytes.new ≡ filled start (part self.entry.from self.entry.to self.entry.line.now) bytes.old }
+    {
+        let read = read_all(bytes, self.text());
+        read.readable.then_some(read.at)
     }
-    if decimal {
-        return read.decimal;
+
+    // The number that at most five bytes of the part make.
+    #[tactic(auto, unfolding(crate::specs::Line::number_of))]
+    pub fn number(self, decimal: bool) -> Option<u64>
+        ensures { result ≡ number_of self.entry.from self.entry.to decimal self.entry.line.now }
+    {
+        let read = read_all(&mut [0; 5], self.text());
+        let number = if decimal { read.decimal } else { read.number };
+        (read.readable && read.at <= 5).then_some(number)
     }
-    read.number
+
+    // Whether what was got is what the part makes of the bytes.
+    #[tactic(auto, using(crate::proofs::Parts::same_if_equal), unfolding(crate::specs::Line::is_written))]
+    pub fn is_written(self, mut bytes: [u8; 66], got: [u8; 66]) -> bool
+        ensures { result ≡ is_written self.entry.from self.entry.to self.entry.line.now bytes got }
+    {
+        self.fill(&mut bytes).is_some_and(|end| end <= 66) && got == bytes
+    }
 }
 
 // Where the answer that a line writes ends: behind its number, and at most 66 bytes.
@@ -202,15 +194,12 @@ pub fn answer_end(line: &[u8]) -> usize
     ensures least { 1 ≤ result }
     ensures most { result ≤ 66 }
 {
-    let mut bytes = [0u8; 1];
-    let end = fill(&mut bytes, line, b'>', b'|');
-    if end < 1 {
-        return 1;
-    }
-    if end > 66 {
-        return 66;
-    }
-    end
+    let answer = Part {
+        line,
+        from: b'>',
+        to: b'|',
+    };
+    answer.fill(&mut [0; 1]).unwrap_or(66).clamp(1, 66)
 }
 
 // An answer with its number, as two decimal digits, in front.
@@ -226,31 +215,5 @@ pub fn lent(image: &[u8]) -> usize
     ensures value { result ≡ min (get_or image.now 65 0) (length image.now) }
     ensures most { result ≤ length image.now }
 {
-    shorter(byte_or(image, LENT, 0) as usize, image.len())
-}
-
-#[tactic(auto, unfolding(crate::specs::Line::same))]
-fn are_same(got: [u8; 66], want: [u8; 66]) -> bool
-    ensures { result ≡ same got want }
-{
-    let mut i = 0;
-    while i < 66 {
-        if got[i] != want[i] {
-            return false;
-        }
-        i += 1;
-    }
-    true
-}
-
-// Whether what was got is what a part of a line makes of the bytes.
-#[tactic(auto, unfolding(crate::specs::Line::is_written))]
-pub fn is_written(line: &[u8], from: u8, to: u8, mut bytes: [u8; 66], got: [u8; 66]) -> bool
-    ensures { result ≡ is_written from to line.now bytes got }
-{
-    let end = fill(&mut bytes, line, from, to);
-    if end > 66 {
-        return false;
-    }
-    are_same(got, bytes)
+    usize::from(byte_or(image, LENT, 0)).min(image.len())
 }

@@ -1,5 +1,5 @@
 -- What each way out of the functions gives. Assumes nothing.
-use Prim.Native.Nat.{ℕ, suc, ◌+◌, ◌-◌, ◌%◌, ◌≤◌, ◌<◌}
+use Prim.Native.Nat.{ℕ, suc, ◌+◌, ◌-◌, ◌≤◌, ◌<◌}
 use native.Mathlib.Omega.{arith}
 use mathlib.Core.Path.{◌≡◌, sym, ap, ◌∙◌}
 use mathlib.Core.Bool.{◌||◌}
@@ -7,6 +7,7 @@ use mathlib.Core.List.{List, []}
 use lib.Dec.{eqb}
 use lib.ListN.{take}
 use borrow.Author.Tests.{lt-ltb, le-ltb, eq-eqb, ne_eqb}
+use Rattle.std.specs.Prelude.{Some, None}
 use Rattle.common.proofs.Choice.{on_true, on_false, past}
 use Rattle.notation.specs.Line.{end_of, number_of}
 use Rattle.stled325.specs.Outcome.{Outcome, outcome}
@@ -44,9 +45,14 @@ module _ (n i : ℕ) (image : List ℕ) where
       let e : 0 ≡ n - i = omega arith in
       ap (λ (k : ℕ). ticks_made k image) e
 
+-- ---- a command that cannot be read
+pub command_unread : (line l o : List ℕ) → None ≡ end_of 32 62 line → outcome 99 l o ≡ command_made line l o
+unfolding command_made
+command_unread line l o e = ap (λ n. command_from n (arguments_in line) l o) e
+
 -- ---- a command, n being where its bytes end
-module _ (line : List ℕ) (n : ℕ) (e : n ≡ end_of 32 62 line) (bytes : List ℕ) (f : bytes ≡ arguments_in line) (l o : List ℕ) where
-  command_by_lem : command_from n bytes l o ≡ command_made line l o
+module _ (line : List ℕ) (n : ℕ) (e : Some n ≡ end_of 32 62 line) (bytes : List ℕ) (f : bytes ≡ arguments_in line) (l o : List ℕ) where
+  command_by_lem : command_from (Some n) bytes l o ≡ command_made line l o
   unfolding command_made
   command_by_lem = λ i. command_from (e i) (f i) l o
 
@@ -58,16 +64,21 @@ module _ (line : List ℕ) (n : ℕ) (e : n ≡ end_of 32 62 line) (bytes : List
       let k : n - 0 ≡ n = omega arith in
       past _ _ (le-ltb 24 n h) (g ∙ ap (λ (m : ℕ). command_call l (take m bytes) o) k) ∙ command_by_lem
 
+-- ---- an event whose number cannot be read
+pub event_unread : (word : ℕ) (line l : List ℕ) → None ≡ number_of 32 62 (eqb word 116 || eqb word 111) line → outcome 99 l [] ≡ event_read word line l
+unfolding event_read
+event_unread word line l e = ap (event_by word l) e
+
 -- ---- an event, n being the number of its arguments
-module _ (word n : ℕ) (line l : List ℕ) (e : n ≡ number_of 32 62 (eqb word 116 || eqb word 111) line) where
-  event_by_lem : event_by word n l ≡ event_read word line l
+module _ (word n : ℕ) (line l : List ℕ) (e : Some n ≡ number_of 32 62 (eqb word 116 || eqb word 111) line) where
+  event_by_lem : event_by word l (Some n) ≡ event_read word line l
   unfolding event_read
-  event_by_lem = ap (λ (k : ℕ). event_by word k l) e
+  event_by_lem = ap (event_by word l) e
 
   pub event_none : 4_294_967_295 < n → outcome 99 l [] ≡ event_read word line l
   event_none h = on_true _ _ (lt-ltb 4_294_967_295 n h) ∙ event_by_lem
 
-  pub event_done : n ≤ 4_294_967_295 → {x : Outcome} → x ≡ event_made word (n % 4_294_967_296) l → x ≡ event_read word line l
+  pub event_done : n ≤ 4_294_967_295 → {x : Outcome} → x ≡ event_made word n l → x ≡ event_read word line l
   event_done h f = past _ _ (le-ltb 4_294_967_295 n h) f ∙ event_by_lem
 
 -- a word that is none of the events

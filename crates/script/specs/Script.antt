@@ -1,5 +1,5 @@
 -- The calls of the worked examples, by the definitions that the exported calls promise. No rule of document 01 is here.
-use Rattle.std.specs.Prelude.{ℕ, zero, suc, ◌%◌, cond, ◌||◌, List, [], eqb, ltb, take, replicate}
+use Rattle.std.specs.Prelude.{ℕ, zero, suc, ◌%◌, cond, ◌||◌, List, [], eqb, ltb, take, replicate, Option, Some, None}
 use Rattle.notation.specs.Reading.{start, filled}
 use Rattle.notation.specs.Line.{part, end_of, number_of}
 use Rattle.stled325.specs.Outcome.{Outcome, outcome}
@@ -20,8 +20,9 @@ abbrev pub arguments_in : List ℕ → List ℕ
 arguments_in line = filled start (part 32 62 line) (replicate 24 0)
 
 -- a command of at most 24 bytes
-abbrev pub command_from : ℕ → List ℕ → List ℕ → List ℕ → Outcome
-command_from n bytes l o = cond (ltb 24 n) (no_call l o) (command_call l (take n bytes) o)
+abbrev pub command_from : Option ℕ → List ℕ → List ℕ → List ℕ → Outcome
+command_from None bytes l o = no_call l o
+command_from (Some n) bytes l o = cond (ltb 24 n) (no_call l o) (command_call l (take n bytes) o)
 
 unfoldable pub command_made : List ℕ → List ℕ → List ℕ → Outcome
 command_made line l o = command_from (end_of 32 62 line) (arguments_in line) l o
@@ -35,12 +36,14 @@ event_made word n l =
     (cond (eqb word 112) (power_up_call l)
     (cond (eqb word 114) (ready_call l n) (cond (eqb word 116) (ticks_made n l) (cond (eqb word 119) (wake_up_call l n) (no_call l [])))))))
 
-abbrev pub event_by : ℕ → ℕ → List ℕ → Outcome
-event_by word n l = cond (ltb 4_294_967_295 n) (no_call l []) (event_made word (n % 4_294_967_296) l)
+-- an event with a number of 32 bits
+abbrev pub event_by : ℕ → List ℕ → Option ℕ → Outcome
+event_by word l None = no_call l []
+event_by word l (Some n) = cond (ltb 4_294_967_295 n) (no_call l []) (event_made word n l)
 
 -- an event with the number that its arguments write, of ticks (t) and of an outage (o) in decimal
 unfoldable pub event_read : ℕ → List ℕ → List ℕ → Outcome
-event_read word line l = event_by word (number_of 32 62 (eqb word 116 || eqb word 111) line) l
+event_read word line l = event_by word l (number_of 32 62 (eqb word 116 || eqb word 111) line)
 
 -- an outcome that leaves the output as it was
 abbrev pub with_output : List ℕ → Outcome → Outcome

@@ -1,81 +1,119 @@
 // The calls of the worked examples as their lines write them: a word, which is known by its first letter, and its arguments, up to >.
 #![tactic(auto)]
 
-ghost use Rattle.std.specs.Prelude.{◌≡◌, []};
+ghost use Rattle.std.specs.Prelude.{◌≡◌, ◌==◌, [], is_ok};
 ghost use Rattle.stled325.specs.Outcome.{outcome};
 ghost use Rattle.script.specs.Script.{ticks_made, command_made, event_made, event_read, made};
+ghost use Rattle.script.specs.Failure.{result_number};
 
+use notation::Part;
 use stled325::{
     stled325_command, stled325_key_sample, stled325_lines, stled325_power_up, stled325_ready,
     stled325_remote_frame, stled325_show, stled325_supply_return, stled325_tick, stled325_wake_up,
 };
 
-// The number of what is no call.
-pub const NO_CALL: u32 = 99;
+// Why the call of a line failed.
+#[derive(Clone, Copy, Debug, PartialEq, Eq)]
+pub enum Failure {
+    // The line writes no call.
+    NoCall,
+    // The call refused, with this number.
+    Refused(u32),
+}
+
+// The number that a line writes of its call: 0, that of a refusal, or 99 of what is no call.
+pub fn number(answer: Result<(), Failure>) -> u32
+    ensures { result ≡ result_number answer }
+{
+    match answer {
+        Ok(()) => 0,
+        Err(Failure::NoCall) => 99,
+        Err(Failure::Refused(number)) => number,
+    }
+}
+
+// What an exported call returned.
+fn returned(number: u32) -> Result<(), Failure>
+    ensures value { result_number result ≡ number }
+    ensures ok { is_ok result ≡ (number == 0) }
+{
+    if number == 0 {
+        Ok(())
+    } else {
+        Err(Failure::Refused(number))
+    }
+}
 
 // Ticks up to the first refusal.
-fn ticks(image: &mut [u8], n: u32) -> u32
-    ensures { outcome result image.new [] ≡ ticks_made n image.old }
+#[tactic(auto, using(crate::proofs::Made::tick_made, crate::proofs::Made::ticks_done))]
+fn ticks(image: &mut [u8], n: u32) -> Result<(), Failure>
+    ensures { outcome (result_number result) image.new [] ≡ ticks_made n image.old }
 {
-    let mut i = 0;
-    while i < n {
-        let number = stled325_tick(image);
-        if number != 0 {
-            return number;
-        }
-        i += 1;
+    for _ in 0..n {
+        returned(stled325_tick(image))?;
     }
-    0
+    Ok(())
 }
 
 // A command of the bytes that are written.
-fn command(image: &mut [u8], out: &mut [u8], line: &[u8]) -> u32
-    ensures { outcome result image.new out.new ≡ command_made line.now image.old out.old }
+// Kept: the bytes stand in an array, since a Vec could fail where this cannot.
+#[tactic(auto, unfolding(crate::specs::Script::command_made))]
+fn command(image: &mut [u8], out: &mut [u8], line: &[u8]) -> Result<(), Failure>
+    ensures { outcome (result_number result) image.new out.new ≡ command_made line.now image.old out.old }
 {
-    let mut bytes = [0u8; 24];
-    let n = notation::fill(&mut bytes, line, b' ', b'>');
-    if n > 24 {
-        return NO_CALL;
-    }
-    stled325_command(image, &bytes[0..n], out)
+    let arguments = Part {
+        line,
+        from: b' ',
+        to: b'>',
+    };
+    let mut bytes = [0; 24];
+    let end = arguments.fill(&mut bytes).ok_or(Failure::NoCall)?;
+    let sent = bytes.get(..end).ok_or(Failure::NoCall)?;
+    returned(stled325_command(image, sent, out))
 }
 
 // An event of a word.
-fn event(image: &mut [u8], word: u8, n: u32) -> u32
-    ensures { outcome result image.new [] ≡ event_made word n image.old }
+#[tactic(auto, unfolding(crate::specs::Script::event_made))]
+fn event(image: &mut [u8], word: u8, n: u32) -> Result<(), Failure>
+    ensures { outcome (result_number result) image.new [] ≡ event_made word n image.old }
 {
     match word {
-        b'f' => stled325_remote_frame(image, n),
-        b'k' => stled325_key_sample(image, (n % 65_536) as u16),
-        b'o' => stled325_supply_return(image, n),
-        b'p' => stled325_power_up(image),
-        b'r' => stled325_ready(image, n),
+        b'f' => returned(stled325_remote_frame(image, n)),
+        b'k' => returned(stled325_key_sample(image, (n % 65_536) as u16)),
+        b'o' => returned(stled325_supply_return(image, n)),
+        b'p' => returned(stled325_power_up(image)),
+        b'r' => returned(stled325_ready(image, n)),
         b't' => ticks(image, n),
-        b'w' => stled325_wake_up(image, n),
-        _ => NO_CALL,
+        b'w' => returned(stled325_wake_up(image, n)),
+        _ => Err(Failure::NoCall),
     }
 }
 
 // An event with its arguments. The number of ticks and of an outage is decimal.
-fn event_after(image: &mut [u8], word: u8, line: &[u8]) -> u32
-    ensures { outcome result image.new [] ≡ event_read word line.now image.old }
+#[tactic(auto, unfolding(crate::specs::Script::event_read))]
+fn event_after(image: &mut [u8], word: u8, line: &[u8]) -> Result<(), Failure>
+    ensures { outcome (result_number result) image.new [] ≡ event_read word line.now image.old }
 {
-    let decimal = (word == b't') | (word == b'o');
-    let n = notation::number(line, b' ', b'>', decimal);
-    if n > 4_294_967_295 {
-        return NO_CALL;
-    }
-    event(image, word, (n % 4_294_967_296) as u32)
+    let arguments = Part {
+        line,
+        from: b' ',
+        to: b'>',
+    };
+    let decimal = matches!(word, b't' | b'o');
+    let number = arguments.number(decimal).ok_or(Failure::NoCall)?;
+    let n = u32::try_from(number).map_err(|_| Failure::NoCall)?;
+    event(image, word, n)
 }
 
 // The call of a word, which begins the line.
-pub fn call(image: &mut [u8], out: &mut [u8], word: u8, line: &[u8]) -> u32
-    ensures { outcome result image.new out.new ≡ made word line.now image.old out.old }
+#[tactic(auto, unfolding(crate::specs::Script::made))]
+pub fn call(image: &mut [u8], out: &mut [u8], word: u8, line: &[u8]) -> Result<(), Failure>
+    ensures { outcome (result_number result) image.new out.new ≡ made word line.now image.old out.old }
 {
     match word {
         b'c' => command(image, out, line),
-        b'l' => stled325_lines(image, out),
-        b's' => stled325_show(image, out),
+        b'l' => returned(stled325_lines(image, out)),
+        b's' => returned(stled325_show(image, out)),
         _ => event_after(image, word, line),
     }
 }
