@@ -1,5 +1,6 @@
 -- The number of a call's result.
 use Rattle.std.specs.Prelude.{ℕ, Result, Ok, Err}
+use Rattle.common.specs.Refused.{refusal_number}
 use Rattle.script.specs.declared.Failure.{Failure}
 use Rattle.script.specs.declared.Failure.TheVariants.{NoCall, Refused}
 
@@ -7,4 +8,4 @@ use Rattle.script.specs.declared.Failure.TheVariants.{NoCall, Refused}
 abbrev pub result_number : Result Unit Failure → ℕ
 result_number (Ok x) = 0
 result_number (Err NoCall) = 99
-result_number (Err (Refused n)) = n
+result_number (Err (Refused r)) = refusal_number r

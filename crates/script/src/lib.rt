@@ -2,10 +2,12 @@
 #![tactic(auto)]
 
 ghost use Rattle.std.specs.Prelude.{◌≡◌, ◌==◌, [], is_ok};
+ghost use Rattle.common.specs.Refused.{number_of};
 ghost use Rattle.stled325.specs.Outcome.{outcome};
 ghost use Rattle.script.specs.Script.{ticks_made, command_made, event_made, event_read, made};
 ghost use Rattle.script.specs.Failure.{result_number};
 
+use common::Refusal;
 use notation::Part;
 use stled325::{
     stled325_command, stled325_key_sample, stled325_lines, stled325_power_up, stled325_ready,
@@ -17,8 +19,8 @@ use stled325::{
 pub enum Failure {
     // The line writes no call.
     NoCall,
-    // The call refused, with this number.
-    Refused(u32),
+    // The call refused.
+    Refused(Refusal),
 }
 
 // The number that a line writes of its call: 0, that of a refusal, or 99 of what is no call.
@@ -28,20 +30,16 @@ pub fn number(answer: Result<(), Failure>) -> u32
     match answer {
         Ok(()) => 0,
         Err(Failure::NoCall) => 99,
-        Err(Failure::Refused(number)) => number,
+        Err(Failure::Refused(refusal)) => refusal as u32,
     }
 }
 
-// What an exported call returned.
-fn returned(number: u32) -> Result<(), Failure>
-    ensures value { result_number result ≡ number }
-    ensures ok { is_ok result ≡ (number == 0) }
+// What a call answered.
+fn returned(answer: Result<(), Refusal>) -> Result<(), Failure>
+    ensures value { result_number result ≡ number_of answer }
+    ensures ok { is_ok result ≡ (number_of answer == 0) }
 {
-    if number == 0 {
-        Ok(())
-    } else {
-        Err(Failure::Refused(number))
-    }
+    answer.map_err(Failure::Refused)
 }
 
 // Ticks up to the first refusal.
