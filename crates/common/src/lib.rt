@@ -1,7 +1,7 @@
 // What every crate shares: a bit by its weight, a byte by its place, the smaller of two lengths. The definitions and laws that all crates cite are in specs/ and proofs/.
 #![tactic(auto)]
 
-ghost use Rattle.std.specs.Prelude.{◌≡◌, cond, ◌<◌, ◌≤◌, min, get_or};
+ghost use Rattle.std.specs.Prelude.{◌≡◌, cond, ◌<◌, ◌≤◌, get_or};
 ghost use Rattle.common.specs.Bits.{bit_set};
 
 mod refusal;
@@ -29,11 +29,4 @@ pub fn byte_or(bytes: &[u8], i: usize, other: u8) -> u8
     ensures { result ≡ get_or bytes.now i other }
 {
     bytes.get(i).copied().unwrap_or(other)
-}
-
-// The smaller of two lengths.
-pub fn shorter(x: usize, y: usize) -> usize
-    ensures { result ≡ min x y }
-{
-    if x <= y { x } else { y }
 }

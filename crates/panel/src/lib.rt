@@ -17,6 +17,7 @@ use command::Command;
 use common::Refusal;
 use controller::Core;
 use display::Display;
+use remote::RemoteKey;
 
 #[derive(Clone, Copy)]
 pub struct Panel {
@@ -146,10 +147,10 @@ impl Panel {
     }
 
     // A remote key.
-    pub fn receive_key(self, address: u8, command: u8) -> Panel
-        ensures { result ≡ on_core (λ c. keyed c address command) self }
+    pub fn receive_key(self, key: RemoteKey) -> Panel
+        ensures { result ≡ on_core (λ c. keyed c key.address key.command) self }
     {
-        self.on_core(|core: Core| core.receive_key(address, command))
+        self.on_core(|core: Core| core.receive_key(key))
     }
 
     // The READY pin takes a level.

@@ -4,14 +4,21 @@
 ghost use Rattle.std.specs.Prelude.{◌≡◌, set};
 ghost use Rattle.series.specs.Demand.{Demand3};
 
+// Writes a number to its place, if there is one.
+fn note(answers: &mut [u32], i: usize, number: u32)
+    ensures { answers.new ≡ set answers.old i number }
+{
+    if i < answers.len() {
+        answers[i] = number;
+    }
+}
+
 // Calls supply return after each n of ns in turn, and writes each call's number to its place in answers, as far as answers has places.
 pub fn supply_series(image: &mut [u8], ns: &[u32], answers: &mut [u32])
     ensures { Demand3 image.old ns.now answers.old image.new answers.new }
 {
-    for (i, &n) in ns.iter().enumerate() {
-        let number = common::number(stled325::stled325_supply_return(image, n));
-        if let Some(answer) = answers.get_mut(i) {
-            *answer = number;
-        }
+    for i in 0..ns.len() {
+        let answer = stled325::stled325_supply_return(image, ns[i]);
+        note(answers, i, common::number(answer));
     }
 }

@@ -62,7 +62,7 @@ pub fn stled325_remote_frame(image: &mut [u8], frame: u32) -> Result<(), Refusal
 {
     let panel = validity::read(image)?;
     let key = remote::key(panel.core.setup.protocol, frame).ok_or(Refusal::NoKey)?;
-    events::store(image, panel.receive_key(key.address, key.command));
+    events::store(image, panel.receive_key(key));
     Ok(())
 }
 
@@ -86,10 +86,11 @@ pub fn stled325_supply_return(image: &mut [u8], seconds: u32) -> Result<(), Refu
     if seconds > calendar::LIMIT {
         return Err(Refusal::LongCut);
     }
-    events::store(
-        image,
-        supply::first_kind::return_panel(panel, Seconds(seconds)),
-    );
+    let cut = Cut {
+        rtc: panel.core.rtc,
+        seconds: Seconds(seconds),
+    };
+    events::store(image, supply::first_kind::return_panel(cut));
     Ok(())
 }
 

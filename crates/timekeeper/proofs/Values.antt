@@ -78,4 +78,3 @@ pub with_from : (rs : List ℕ) (c : Clock) (s second minute h hour weekday date
 unfolding with_clock
 with_from rs c s second minute h hour weekday date month year es e1 e2 eh e3 e4 e5 e6 e7 =
     λ i. at rs 0x00 ∷ (e1 ∙ ap (under_b7 (at rs SECONDS)) es) i ∷ e2 i ∷ (e3 ∙ ap (under_b7_b6 (at rs HOURS)) eh) i ∷ e4 i ∷ e5 i ∷ (c.century % 4 * 64 + e6 i % 64) ∷ e7 i ∷ spell 0x08 8 rs
-

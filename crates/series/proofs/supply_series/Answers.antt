@@ -49,8 +49,8 @@ unfolding image_after_series numbers
 begin l ns a = record { most = omega arith; sized = refl; places = refl; image_is = refl; answers_are = sym (noted_none a) }
 
 turn : (l ns a image answers next said : List ℕ) (i r : ℕ) → i < length ns → Gone l ns a image answers i
-    → outcome r next [] ≡ supply_return_call image (get_or ns i 0) → said ≡ set answers i r → Gone l ns a next said (i + 1)
-turn l ns a image answers next said i r h g e f =
+    → (v : ℕ) → outcome v next [] ≡ supply_return_call image (get_or ns i 0) → r ≡ v → said ≡ set answers i r → Gone l ns a next said (i + 1)
+turn l ns a image answers next said i r h g v e₀ er f =
     record {
       most = omega arith;
       sized = ap length (ap (λ (x : Outcome). x.image) e) ∙ length_call image (get_or ns i 0) ∙ g.sized;
@@ -62,6 +62,9 @@ turn l ns a image answers next said i r h g e f =
           ∙ ap (noted a) (sym (numbers_more l (take i ns) (get_or ns i 0)) ∙ ap (numbers l) one_more_lem);
     }
   where
+    e : outcome r next [] ≡ supply_return_call image (get_or ns i 0)
+    e = ap (λ (x : ℕ). outcome x next []) er ∙ e₀
+
     call : outcome r next [] ≡ supply_return_call (image_after_series l (take i ns)) (get_or ns i 0)
     call = e ∙ ap (λ (y : List ℕ). supply_return_call y (get_or ns i 0)) g.image_is
 
@@ -81,7 +84,7 @@ loop-i-init c = begin _ _ _
 
 pub loop-i-preserved : goal.loop-i-preserved
 loop-i-preserved c =
-    turn _ _ _ _ _ _ _ _ _ c.loop-i-test.true c.loop-i.invariant c.stled325_supply_return-number.ensures c.note.ensures
+    turn _ _ _ _ _ _ _ _ _ c.loop-i-test.true c.loop-i.invariant _ c.stled325_supply_return-answer.ensures c.number.ensures c.note.ensures
 
 pub returns : goal.returns
 returns c =
