@@ -2,13 +2,12 @@
 use mathlib.Core.Path.{◌≡◌, refl, sym, ap, ◌∙◌, subst}
 use mathlib.Core.Logic.{⊎_elim}
 use mathlib.Core.List.{List, [], ◌∷◌, ◌++◌, append-nil}
-use Prim.Native.Nat.{ℕ, zero, suc, ◌+◌, ◌-◌, ◌<◌, ◌≤◌}
+use Prim.Native.Nat.{ℕ, zero, suc, ◌+◌, ◌-◌, ◌<◌, ◌≤◌, min}
 use native.Mathlib.Nat.{add-zero, add-suc, suc-add, le_of_suc-le-suc, not-suc-le-zero, add-sub_of_le}
 use native.Mathlib.Omega.{arith}
 use lib.ListN.{length, get_or, take, drop, set, length-append, length-drop, take-append-drop, drop_of_length-le, get_or-append}
-use lib.Seq.{take_all, length-take-le, get_or-append-add, get_or-take, get_or-drop}
-use native.Mathlib.Numerals.{add-one}
-use Rattle.std.proofs.lemmas.List.{nil_from_length}
+use lib.Seq.{take-nil, take_all, length-take-le, get_or-append-add, get_or-take, get_or-drop}
+use Rattle.common.proofs.Part.{lent, back}
 use Rattle.common.proofs.Order.{lt_or_le}
 use Rattle.registers.specs.Written.{kept, stored, written}
 
@@ -16,6 +15,26 @@ pub stored_none : (a : ℕ) (rs : List ℕ) → stored a rs [] ≡ rs
 unfolding stored
 stored_none a [] = refl
 stored_none a (r ∷ rs) = refl
+
+-- byte j joins those before it
+pub stored_more : (a : ℕ) (rs bytes : List ℕ) (j : ℕ) → j < length rs → j < length bytes
+    → set (stored a rs (take j bytes)) j (kept (a + j) (get_or bytes j 0)) ≡ stored a rs (take (suc j) bytes)
+unfolding stored
+stored_more a [] bytes j hr hb = absurd (not-suc-le-zero hr)
+stored_more a (r ∷ rs) [] j hr hb = absurd (not-suc-le-zero hb)
+stored_more a (r ∷ rs) (b ∷ bytes) zero hr hb =
+    ap (λ (k : ℕ). kept k b ∷ rs) (add-zero a) ∙ ap (λ (l : List ℕ). kept a b ∷ l) (sym (stored_none (suc a) rs))
+stored_more a (r ∷ rs) (b ∷ bytes) (suc j) hr hb =
+    ap (λ (k : ℕ). kept a b ∷ set (stored (suc a) rs (take j bytes)) j (kept k (get_or bytes j 0))) (add-suc a j ∙ sym (suc-add a j))
+    ∙ ap (λ (l : List ℕ). kept a b ∷ l) (stored_more (suc a) rs bytes j (le_of_suc-le-suc hr) (le_of_suc-le-suc hb))
+
+-- as many bytes as both have are all
+pub stored_all : (a : ℕ) (rs bytes : List ℕ) (n : ℕ) → min (length rs) (length bytes) ≤ n → stored a rs (take n bytes) ≡ stored a rs bytes
+unfolding stored
+stored_all a [] bytes n h = refl
+stored_all a (r ∷ rs) [] n h = ap (stored a (r ∷ rs)) (take-nil n)
+stored_all a (r ∷ rs) (b ∷ bytes) zero h = absurd (omega arith)
+stored_all a (r ∷ rs) (b ∷ bytes) (suc n) h = ap (λ (l : List ℕ). kept a b ∷ l) (stored_all (suc a) rs bytes n (omega arith))
 
 stored_length : (a : ℕ) (rs bytes : List ℕ) → length (stored a rs bytes) ≡ length rs
 unfolding stored
@@ -35,14 +54,11 @@ module _ (rs : List ℕ) (a : ℕ) (bytes : List ℕ) where
       ∙ ap (λ (l : List ℕ). rs ++ stored a l bytes) (drop_of_length-le rs h)
       ∙ append-nil rs)
 
-  -- no bytes change nothing
-  pub written_none : length bytes ≡ 0 → rs ≡ written rs a bytes
+  -- the part from a on is lent, stored into, and comes back as l
+  pub written_lent : (n : ℕ) (l : List ℕ) → length rs ≡ n → l ≡ stored a (take (n - a) (drop a rs)) bytes
+      → take a rs ++ (l ++ drop (n - a) (drop a rs)) ≡ written rs a bytes
   unfolding written
-  written_none h =
-      sym
-      (ap (λ (l : List ℕ). take a rs ++ stored a (drop a rs) l) (nil_from_length bytes h)
-      ∙ ap (λ (l : List ℕ). take a rs ++ l) (stored_none a (drop a rs))
-      ∙ take-append-drop a rs)
+  written_lent n l e s = back n a rs l e ∙ ap (λ (t : List ℕ). take a rs ++ t) (s ∙ ap (λ (t : List ℕ). stored a t bytes) (lent n a rs e))
 
   pub written_length : length (written rs a bytes) ≡ length rs
   unfolding written
@@ -51,19 +67,6 @@ module _ (rs : List ℕ) (a : ℕ) (bytes : List ℕ) where
       ∙ ap (λ (k : ℕ). length (take a rs) + k) (stored_length a (drop a rs) bytes)
       ∙ sym (length-append (take a rs) (drop a rs))
       ∙ ap length (take-append-drop a rs)
-
--- the first byte goes to register a, the others to those behind it; k counts the registers before rs
-written_behind_first : (k a : ℕ) (rs : List ℕ) (b : ℕ) (bytes : List ℕ) → a < length rs
-    → take (suc a) (set rs a (kept k b)) ++ stored (suc k) (drop (suc a) (set rs a (kept k b))) bytes ≡ take a rs ++ stored k (drop a rs) (b ∷ bytes)
-unfolding stored
-written_behind_first k a [] b bytes h = absurd (not-suc-le-zero h)
-written_behind_first k zero (r ∷ rs) b bytes h = refl
-written_behind_first k (suc a) (r ∷ rs) b bytes h = ap (λ (l : List ℕ). r ∷ l) (written_behind_first k a rs b bytes (le_of_suc-le-suc h))
-
-pub written_first : (rs : List ℕ) (a b : ℕ) (bytes : List ℕ) → a < length rs → written (set rs a (kept a b)) (a + 1) bytes ≡ written rs a (b ∷ bytes)
-unfolding written
-written_first rs a b bytes h =
-    ap (λ (n : ℕ). take n (set rs a (kept a b)) ++ stored n (drop n (set rs a (kept a b))) bytes) (add-one a) ∙ written_behind_first a a rs b bytes h
 
 -- ---- What stands at each address
 

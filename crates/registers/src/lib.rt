@@ -1,9 +1,9 @@
 // The sixteen clock registers 00h..0Fh, held as an array by value: single bits, reserved bits, writing, and what the watchdog loads.
 #![tactic(auto)]
 
-ghost use Rattle.std.specs.Prelude.{◌≡◌, ◌<◌};
+ghost use Rattle.std.specs.Prelude.{◌≡◌, ◌+◌, ◌≤◌, ◌<◌, length};
 ghost use Rattle.registers.specs.Names.{stopped, afe, abe, wdfen};
-ghost use Rattle.registers.specs.Written.{kept, reserved_clear, written};
+ghost use Rattle.registers.specs.Written.{kept, reserved_clear, stored, written};
 ghost use Rattle.registers.specs.Watchdog.{watchdog_load};
 
 use units::Sixteenths;
@@ -120,12 +120,22 @@ pub fn reserved_clear(registers: [u8; 16]) -> bool
         & (registers[ALARM_WEEKDAY] % 16 == 0)
 }
 
-// The registers after bytes are written from address a on, past 0Fh ignored.
+// Stores bytes over dst, whose first byte is register a.
+fn store(dst: &mut [u8], a: usize, bytes: &[u8])
+    requires { a + length dst.old ≤ 16 }
+    ensures { dst.new ≡ stored a dst.old bytes.now }
+{
+    for j in 0..dst.len().min(bytes.len()) {
+        dst[j] = kept_bits(a + j, bytes[j]);
+    }
+}
+
+// The registers after bytes are written from address a on: the part from there is lent on to be stored into.
 pub fn write(mut registers: [u8; 16], a: usize, bytes: &[u8]) -> [u8; 16]
     ensures { result ≡ written registers a bytes.now }
 {
-    for (address, byte) in (a..registers.len()).zip(bytes) {
-        registers[address] = kept_bits(address, *byte);
+    if a <= registers.len() {
+        store(&mut registers[a..], a, bytes);
     }
     registers
 }
