@@ -90,11 +90,20 @@ fn decode_power(image: [u8; 64]) -> Power
     }
 }
 
+// The clock registers.
+pub fn decode_registers(image: [u8; 64]) -> [u8; 16]
+    ensures { result ≡ registers_in image }
+{
+    let mut registers = [0u8; 16];
+    registers.copy_from_slice(&image[..SIXTEENTHS]);
+    registers
+}
+
 fn decode_rtc(image: [u8; 64]) -> Rtc
     ensures { result ≡ rtc_in image }
 {
     Rtc {
-        registers: load_registers(&image),
+        registers: decode_registers(image),
         sixteenths: Sixteenths(u64::from(image[SIXTEENTHS])),
         flags: image[FLAGS],
         watchdog: Sixteenths(u64::from(word_at(image, WATCHDOG_LEFT))),
@@ -201,26 +210,6 @@ pub fn encode(p: Panel) -> [u8; 64]
     image[DISPLAY_CONTROL] = p.display.control;
     image[DIGIT_BYTES..UNUSED].copy_from_slice(&p.display.bytes);
     image
-}
-
-// The image's bytes by value; the compiler copies 64 bytes faster than as many as there are.
-pub fn load(image: &[u8]) -> [u8; 64]
-    requires { length image.now ≡ image_len }
-    ensures { result ≡ image.now }
-{
-    let mut a = [0u8; 64];
-    a.copy_from_slice(&image[0..64]);
-    a
-}
-
-// The image's registers by value.
-pub fn load_registers(image: &[u8]) -> [u8; 16]
-    requires { length image.now ≡ image_len }
-    ensures { result ≡ registers_in image.now }
-{
-    let mut a = [0u8; 16];
-    a.copy_from_slice(&image[0..16]);
-    a
 }
 
 // The bytes written to the image.

@@ -8,12 +8,11 @@ use lib.Dec.{leb}
 use borrow.Author.Tests.{le-leb, lt-leb, leb-true, leb-false, not-true, not-false}
 use Rattle.common.specs.Tests.{conj}
 use Rattle.common.specs.Spell.{spell}
-use Rattle.common.proofs.Choice.{on_true, on_false, by_cases}
+use Rattle.common.proofs.Choice.{by_cases}
 use Rattle.common.proofs.Tests.{each}
 use Rattle.calendar.specs.declared.Clock.{Clock}
 use Rattle.calendar.specs.Date.{leap, month_length}
 use Rattle.registers.specs.Names.{at, SECONDS, MINUTES, HOURS, WEEKDAY, DATE, MONTH, YEAR}
-use Rattle.registers.specs.Written.{written}
 use Rattle.timekeeper.specs.Bcd.{digits, bcd, decimal_tests}
 use Rattle.timekeeper.specs.Clock.{field_bytes, clock_of, calendar_tests, last_date, valid_calendar, under_b7, under_b7_b6, with_clock}
 

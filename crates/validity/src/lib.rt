@@ -86,28 +86,33 @@ fn is_sound(p: Panel) -> bool
         & ((remote.fresh != 0) | (remote.command == 0))
 }
 
+// Whether 64 bytes are a valid image.
+fn is_valid_image(image: [u8; 64]) -> bool
+    ensures { result ≡ is_valid image }
+{
+    if !timekeeper::valid(image::decode_registers(image)) {
+        return false;
+    }
+    unnamed_clear(image) & tail_clear(image) & is_sound(image::decode(image))
+}
+
 // Whether the bytes are a valid image.
+#[tactic(auto, using(crate::proofs::Tests::not_sized))]
 pub fn is_valid(image: &[u8]) -> bool
     ensures { result ≡ is_valid image.now }
 {
-    if image.len() != IMAGE_LEN {
-        return false;
-    }
-    if !timekeeper::valid(image::load_registers(image)) {
-        return false;
-    }
-    let a = image::load(image);
-    unnamed_clear(a) & tail_clear(a) & is_sound(image::decode(a))
+    <[u8; IMAGE_LEN]>::try_from(image).is_ok_and(is_valid_image)
 }
 
 // The panel in a valid image.
-#[tactic(auto, using(crate::proofs::Laws::valid_length, crate::proofs::Laws::read_sound))]
+#[tactic(auto, using(crate::proofs::Tests::not_sized, crate::proofs::Laws::read_sound))]
 pub fn read(image: &[u8]) -> Result<Panel, Refusal>
     ensures value { result ≡ panel_read image.now }
     ensures sound { IfOk result SoundPanel }
 {
-    if is_valid(image) {
-        Ok(image::decode(image::load(image)))
+    let image = <[u8; IMAGE_LEN]>::try_from(image).map_err(|_| Refusal::InvalidImage)?;
+    if is_valid_image(image) {
+        Ok(image::decode(image))
     } else {
         Err(Refusal::InvalidImage)
     }
