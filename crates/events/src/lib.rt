@@ -33,10 +33,12 @@ pub fn update<F: FnOnce(Panel) -> Panel>(image: &mut [u8], event: F) -> Result<(
 pub fn show(p: Panel) -> [u8; 5]
     ensures { result ≡ shown_in p }
 {
+    let core = p.core;
+    let registers = core.rtc.registers;
     display::show(
-        p.core.rtc.registers,
-        p.core.setup.configuration,
-        p.core.power.stby,
+        registers,
+        core.setup.configuration,
+        core.power.stby,
         p.display,
     )
 }

@@ -114,10 +114,7 @@ pub fn stled325_lines(image: &[u8], lines: &mut [u8]) -> Result<(), Refusal>
     if lines.len() != LINES_LEN {
         return Err(Refusal::BufferLength);
     }
-    lines[0] = display::lines(
-        panel.core.power.ready,
-        panel.core.power.stby,
-        panel.core.interrupt,
-    );
+    let power = panel.core.power;
+    lines[0] = display::lines(power.ready, power.stby, panel.core.interrupt);
     Ok(())
 }
