@@ -35,10 +35,6 @@ pub fn show(p: Panel) -> [u8; 5]
 {
     let core = p.core;
     let registers = core.rtc.registers;
-    display::show(
-        registers,
-        core.setup.configuration,
-        core.power.stby,
-        p.display,
-    )
+    let configuration = core.setup.configuration;
+    display::show(registers, configuration, core.power.stby, p.display)
 }
