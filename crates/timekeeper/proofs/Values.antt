@@ -1,4 +1,4 @@
--- The definitions as the code computes them, value by value: one law for each function that calls others. Assumes nothing.
+-- The test of a calendar as the code computes it. Assumes nothing.
 use Prim.Native.Nat.{ℕ, ◌+◌, ◌*◌, ◌/◌, ◌%◌, ◌≤◌}
 use mathlib.Core.Path.{◌≡◌, sym, ap, ◌∙◌}
 use mathlib.Core.Bool.{Bool, true, false, not, ◌&&◌}
@@ -7,21 +7,12 @@ use native.Mathlib.Omega.{arith}
 use lib.Dec.{leb}
 use borrow.Author.Tests.{le-leb, lt-leb, leb-true, leb-false, not-true, not-false}
 use Rattle.common.specs.Tests.{conj}
-use Rattle.common.specs.Spell.{spell}
 use Rattle.common.proofs.Choice.{by_cases}
 use Rattle.common.proofs.Tests.{each}
-use Rattle.calendar.specs.declared.Clock.{Clock}
 use Rattle.calendar.specs.Date.{leap, month_length}
 use Rattle.registers.specs.Names.{at, SECONDS, MINUTES, HOURS, WEEKDAY, DATE, MONTH, YEAR}
-use Rattle.timekeeper.specs.Bcd.{digits, bcd, decimal_tests}
-use Rattle.timekeeper.specs.Clock.{field_bytes, clock_of, calendar_tests, last_date, valid_calendar, under_b7, under_b7_b6, with_clock}
-
-pub clock_from : (rs : List ℕ) (century year month date weekday hour minute second : ℕ) → century ≡ at rs MONTH / 64 → year ≡ digits (at rs YEAR) → month ≡ digits (at rs MONTH % 64)
-    → date ≡ digits (at rs DATE) → weekday ≡ digits (at rs WEEKDAY) → hour ≡ digits (at rs HOURS % 64) → minute ≡ digits (at rs MINUTES) → second ≡ digits (at rs SECONDS % 128)
-    → record { century = century; year = year; month = month; date = date; weekday = weekday; hour = hour; minute = minute; second = second } ≡ clock_of rs
-unfolding clock_of
-clock_from rs k y m d w h n s ek ey em ed ew eh en es =
-    λ i. record { century = ek i; year = ey i; month = em i; date = ed i; weekday = ew i; hour = eh i; minute = en i; second = es i }
+use Rattle.timekeeper.specs.Bcd.{digits, decimal_tests}
+use Rattle.timekeeper.specs.Clock.{field_bytes, clock_of, calendar_tests, last_date, valid_calendar}
 
 -- ---- Validity
 
@@ -70,10 +61,3 @@ module _ (rs : List ℕ) (decimal : Bool) (ed : decimal ≡ conj (decimal_tests 
 
       last : n ≡ last_date (clock_of rs)
       last = en ∙ (λ i. month_length ((el ∙ (λ j. leap (100 * ek j + ey j))) i) (em i))
-
-pub with_from : (rs : List ℕ) (c : Clock) (s second minute h hour weekday date month year : ℕ) → s ≡ bcd c.second → second ≡ under_b7 (at rs SECONDS) s → minute ≡ bcd c.minute
-    → h ≡ bcd c.hour → hour ≡ under_b7_b6 (at rs HOURS) h → weekday ≡ bcd c.weekday → date ≡ bcd c.date → month ≡ bcd c.month → year ≡ bcd c.year
-    → at rs 0x00 ∷ second ∷ minute ∷ hour ∷ weekday ∷ date ∷ (c.century % 4 * 64 + month % 64) ∷ year ∷ spell 0x08 8 rs ≡ with_clock rs c
-unfolding with_clock
-with_from rs c s second minute h hour weekday date month year es e1 e2 eh e3 e4 e5 e6 e7 =
-    λ i. at rs 0x00 ∷ (e1 ∙ ap (under_b7 (at rs SECONDS)) es) i ∷ e2 i ∷ (e3 ∙ ap (under_b7_b6 (at rs HOURS)) eh) i ∷ e4 i ∷ e5 i ∷ (c.century % 4 * 64 + e6 i % 64) ∷ e7 i ∷ spell 0x08 8 rs

@@ -54,6 +54,7 @@ fn century(b: u8) -> u32
 }
 
 // The calendar that the registers hold.
+#[tactic(auto, unfolding(crate::specs::Clock::clock_of))]
 pub fn clock_of(registers: [u8; 16]) -> Clock
     ensures { result ≡ clock_of registers }
 {
@@ -135,6 +136,7 @@ fn under_b7_b6(flags: u8, b: u8) -> u8
 }
 
 // The registers with another calendar in 01h..07h; flag bits stay.
+#[tactic(auto, unfolding(crate::specs::Clock::with_clock))]
 pub fn with_clock(registers: [u8; 16], c: Clock) -> [u8; 16]
     ensures { result ≡ with_clock registers c }
 {
