@@ -77,16 +77,29 @@ fn counterpart(name: &str) -> Option<(&str, String, u32, &[&str])> {
     })
 }
 
-/// The number that a line gives to the name: `pub const NAME: u8 = 8;` in code, `NAME = 8` in a definition, or `name = 8` where a
-/// clause cites it beside the constant.
+/// A variant's name as a constant's: `WakeUp` as `WAKE_UP`.
+fn capitals(variant: &str) -> String {
+    let mut name = String::new();
+    for c in variant.chars() {
+        if c.is_uppercase() && !name.is_empty() {
+            name.push('_');
+        }
+        name.extend(c.to_uppercase());
+    }
+    name
+}
+
+/// The number that a line gives to the name: `pub const NAME: u8 = 8;` or the variant `    Name = 8,` in code, `NAME = 8` in a definition,
+/// or `name = 8` where a clause cites it beside the constant.
 fn stated(line: &str, name: &str) -> Option<u32> {
     let (left, right) = line.split_once(" = ")?;
     let item = left.trim_start();
     let declared = match item.strip_prefix("pub ").unwrap_or(item).strip_prefix("const ") {
         Some(constant) => constant.split(':').next()?.to_string(),
+        None if item != left && right.ends_with(',') => capitals(item),
         None => left.to_uppercase(),
     };
-    number(right.split_whitespace().next()?).filter(|_| declared == name)
+    number(right.trim_end_matches(',').split_whitespace().next()?).filter(|_| declared == name)
 }
 
 /// Each number that the crate's files in the folder give to the name.
@@ -120,6 +133,8 @@ fn complaints(name: &str, value: u32) -> Vec<String> {
 fn a_number_that_differs_or_is_missing_is_noticed() {
     assert_eq!(stated("pub const LIMIT: u32 = 31_622_400;", "LIMIT"), Some(31_622_400));
     assert_eq!(stated("    const KEY: u8 = 8; // b3", "KEY"), Some(8));
+    assert_eq!(stated("    WakeUp = 2,", "WAKE_UP"), Some(2));
+    assert_eq!(stated("    WakeUp = 2,", "WAKEUP"), None);
     assert_eq!(stated("limit = 31_622_400", "LIMIT"), Some(31_622_400));
     assert_eq!(stated("ALARM_MONTH = 0x0A", "ALARM_MONTH"), Some(0x0A));
     assert_eq!(stated("ALARM_MONTHS = 0x0A", "ALARM_MONTH"), None);

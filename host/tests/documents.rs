@@ -62,7 +62,7 @@ fn declares(line: &str, keywords: &[&str], name: &str) -> bool {
     }
     keywords.iter().any(|keyword| {
         let after = rest.strip_prefix(keyword).and_then(|rest| rest.strip_prefix(name));
-        after.is_some_and(|after| after.starts_with([' ', '(', ':', ';']))
+        after.is_some_and(|after| after.starts_with([' ', '(', '<', ':', ';']))
     })
 }
 
@@ -105,8 +105,13 @@ fn found(word: &str) -> Option<bool> {
 
 #[test]
 fn a_name_that_is_not_there_is_noticed() {
-    for there in ["calendar/Date.leap", "calendar::Clock", "controller::Core::tick", "units!second_one_late"]
-    {
+    for there in [
+        "calendar/Date.leap",
+        "calendar::Clock",
+        "controller::Core::tick",
+        "notation::Part::fill",
+        "units!second_one_late",
+    ] {
         assert_eq!(found(there), Some(true), "{there}");
     }
     for missing in

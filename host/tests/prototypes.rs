@@ -67,16 +67,27 @@ fn promised(source: &str) -> BTreeMap<&str, &str> {
     heads.filter_map(|(_, rest)| rest.split_once("\n{")?.0.split_once('(')).collect()
 }
 
+/// The library's source, whose calls answer by a `Result`, as that of calls which return the answer's number.
+fn numbered(source: &str) -> String {
+    source.replace("-> Result<(), Refusal>", "-> u32").replace("(number_of result)", "result")
+}
+
 #[test]
 fn each_export_promises_what_the_call_of_its_name_promises() {
-    let call = "\npub fn x(n: u16) -> u32\n    ensures { result ≡ n }\n{\n    n\n}\n";
+    let answer =
+        "\npub fn x(n: u16) -> Result<(), Refusal>\n    ensures { (number_of result) ≡ n }\n{\n    n\n}\n";
+    let call = &numbered(answer);
     let export = call.replace("pub fn", "pub extern \"C\" fn");
+    assert_ne!(promised(answer), promised(&export));
     assert_eq!(promised(call), promised(&export));
     for wrong in [export.replace("≡ n", "≡ 0"), export.replace("u16", "u32"), export.replace("fn x", "fn y")]
     {
         assert_ne!(promised(call), promised(&wrong), "{wrong}");
     }
-    let calls = promised(include_str!("../../crates/stled325/src/lib.rt"));
+    let library = include_str!("../../crates/stled325/src/lib.rt");
+    assert_eq!(library.matches("(number_of result)").count(), 10);
+    let numbers = numbered(library);
+    let calls = promised(&numbers);
     assert_eq!(calls.len(), 10);
     assert_eq!(calls, promised(include_str!("../../crates/stled325_c/src/lib.rt")));
 }

@@ -71,7 +71,11 @@ pub fn stled325_command(image: &mut [u8], bytes: &[u8], out: &mut [u8]) -> Resul
     ensures { outcome (number_of result) image.new out.new ≡ command_call image.old bytes.now out.old }
 {
     let panel = validity::read(image)?;
-    let command = command::decode(bytes, panel.core.power.stby, out.len())?;
+    // Kept as `let .. else`, the form that the panel's description names for this place.
+    let decoded = command::decode(bytes, panel.core.power.stby, out.len());
+    let Ok(command) = decoded else {
+        return decoded.and(Ok(()));
+    };
     let next = panel.execute(command, bytes)?;
     panel.reply(command, out);
     events::store(image, next);
