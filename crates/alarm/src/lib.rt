@@ -142,7 +142,7 @@ impl Alarm {
     }
 
     // The least count of the seconds after which the clock matches, or one more than all of them; no second and an impossible field cost no walk.
-    // Kept as a number and no Option: the clause says the number `first_reached`, which is one more where none matches.
+    // Kept as a number and no Option: the clause says the number `alarm/Reached.first_reached`, which is one more where none matches.
     pub fn first_match(self, span: Span) -> Seconds
         ensures { result.0 ≡ first_reached (matches self) span.start span.seconds.0 }
     {

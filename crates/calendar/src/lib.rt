@@ -68,36 +68,29 @@ impl Clock {
                 ..day
             };
         }
+        let first = Clock { date: 1, ..day };
         if self.month < 12 {
             return Clock {
                 month: self.month + 1,
-                date: 1,
-                ..day
+                ..first
             };
         }
+        let january = Clock { month: 1, ..first };
         if self.year < 99 {
             return Clock {
                 year: self.year + 1,
-                month: 1,
-                date: 1,
-                ..day
+                ..january
             };
         }
-        if self.century < 3 {
-            return Clock {
-                century: self.century + 1,
-                year: 0,
-                month: 1,
-                date: 1,
-                ..day
-            };
-        }
+        let century = if self.century < 3 {
+            self.century + 1
+        } else {
+            0
+        };
         Clock {
-            century: 0,
+            century,
             year: 0,
-            month: 1,
-            date: 1,
-            ..day
+            ..january
         }
     }
 

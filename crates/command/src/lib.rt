@@ -11,7 +11,8 @@ ghost use Rattle.common.specs.Refused.{number_of};
 
 use common::Refusal;
 
-// The codes that are one command each.
+// The codes that are one command each. Kept as bytes, and not as an enum: a first byte may be any, two groups take many, and `command/Codes.listed`,
+// `command/Refusals.bytes_needed` and `command/Decode.command_by` say of the byte.
 const WRITE_DIGITS: u8 = 0x40;
 
 const WRITE_REGISTERS: u8 = 0x50;
@@ -30,7 +31,8 @@ const STANDBY: u8 = 0xC1;
 
 const RELOAD_GUARD: u8 = 0xC2;
 
-// Kept a plain value, without the data of 40h and 50h: a slice in it has a place in memory, and `command/Decode.decoded_of` says of a command its numbers alone.
+// Kept a plain value, and so with its bytes beside it where it is served, for the data of 40h and 50h: a slice in it has a place in memory, and
+// `command/Decode.decoded_of` says of a command its numbers alone.
 #[derive(Clone, Copy, Debug, PartialEq, Eq)]
 pub enum Command {
     // Configuration bits; protocol and guard value.

@@ -1,4 +1,5 @@
-// What every crate shares: a bit by its weight, a byte by its place, the smaller of two lengths. The definitions and laws that all crates cite are in specs/ and proofs/.
+// What every crate shares: a bit by its weight, a byte by its place, and why a call is refused. The definitions and laws that all crates cite are in
+// specs/ and proofs/.
 #![tactic(auto)]
 
 ghost use Rattle.std.specs.Prelude.{◌≡◌, cond, ◌<◌, ◌≤◌, get_or};

@@ -46,7 +46,7 @@ pub struct Rtc {
     pub watchdog: Sixteenths,
 }
 
-// The lines READY, WAKE_UP and STBY, and what is left of the guard, 0 where it is not running.
+// The lines READY, WAKE_UP and STBY, and what is left of the guard, 0 where it is not running, kept as a count as in `Rtc`.
 #[derive(Clone, Copy)]
 pub struct Power {
     pub ready: bool,

@@ -39,7 +39,8 @@ const MUTE: u8 = 2;
 
 const IRQ: u8 = 4;
 
-// Digits in use 1..5; b4 on, b3..b0 brightness; the digit bytes.
+// Digits in use 1..5; b4 on, b3..b0 brightness; the digit bytes. Kept as five bytes with the digits in use beside them: all five can be written,
+// whatever is in use.
 #[derive(Clone, Copy)]
 pub struct Display {
     pub digits: u8,

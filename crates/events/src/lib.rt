@@ -4,7 +4,7 @@
 ghost use Rattle.std.specs.Prelude.{◌≡◌, length};
 ghost use Rattle.image.specs.Layout.{image_len};
 ghost use Rattle.image.specs.Image.{decoded, encoded};
-ghost use Rattle.events.specs.Update.{Updated};
+ghost use Rattle.events.specs.Update.{Applied, Updated};
 ghost use Rattle.events.specs.Show.{shown_in};
 
 use common::Refusal;
@@ -18,14 +18,34 @@ pub fn store(image: &mut [u8], p: Panel)
     image::save(image, image::encode(p));
 }
 
+// The panel in 64 bytes.
+fn panel_in(image: &[u8]) -> Panel
+    requires { length image.now ≡ image_len }
+    ensures { result ≡ decoded image.now }
+{
+    image::decode(image::load(image))
+}
+
+// An event of the panel in 64 bytes, whether or not they are a valid image.
+pub fn apply<F: FnOnce(Panel) -> Panel>(image: &mut [u8], event: F)
+    requires image_len { length image.old ≡ image_len }
+    requires callable { F.IsAlwaysCallable event }
+    ensures { Applied (F.post event) image.old image.new }
+{
+    let panel = panel_in(image);
+    store(image, event(panel));
+}
+
 // An event of the panel in a valid image.
 #[tactic(auto, using(validity::proofs::Laws::valid_length))]
 pub fn update<F: FnOnce(Panel) -> Panel>(image: &mut [u8], event: F) -> Result<(), Refusal>
     requires { F.IsAlwaysCallable event }
     ensures { Updated (F.post event) image.old image.new result }
 {
-    let panel = validity::read(image)?;
-    store(image, event(panel));
+    if !validity::is_valid(image) {
+        return Err(Refusal::InvalidImage);
+    }
+    apply(image, event);
     Ok(())
 }
 

@@ -90,20 +90,11 @@ fn decode_power(image: [u8; 64]) -> Power
     }
 }
 
-// The clock registers.
-pub fn decode_registers(image: [u8; 64]) -> [u8; 16]
-    ensures { result ≡ registers_in image }
-{
-    let mut registers = [0u8; 16];
-    registers.copy_from_slice(&image[..SIXTEENTHS]);
-    registers
-}
-
 fn decode_rtc(image: [u8; 64]) -> Rtc
     ensures { result ≡ rtc_in image }
 {
     Rtc {
-        registers: decode_registers(image),
+        registers: load_registers(&image),
         sixteenths: Sixteenths(u64::from(image[SIXTEENTHS])),
         flags: image[FLAGS],
         watchdog: Sixteenths(u64::from(word_at(image, WATCHDOG_LEFT))),
@@ -210,6 +201,26 @@ pub fn encode(p: Panel) -> [u8; 64]
     image[DISPLAY_CONTROL] = p.display.control;
     image[DIGIT_BYTES..UNUSED].copy_from_slice(&p.display.bytes);
     image
+}
+
+// The image's bytes by value; the compiler copies 64 bytes faster than as many as there are. Kept as a slice of so many bytes, here, in `save` and in
+// `events`: of a slice lent to be changed, what a refused conversion to an array leaves is not proved.
+pub fn load(image: &[u8]) -> [u8; 64]
+    requires { length image.now ≡ image_len }
+    ensures { result ≡ image.now }
+{
+    let mut a = [0u8; 64];
+    a.copy_from_slice(&image[0..64]);
+    a
+}
+
+// The registers of an image that is lent.
+pub fn load_registers(image: &[u8; 64]) -> [u8; 16]
+    ensures { result ≡ registers_in image.now }
+{
+    let mut registers = [0u8; 16];
+    registers.copy_from_slice(&image[..SIXTEENTHS]);
+    registers
 }
 
 // The bytes written to the image.

@@ -7,7 +7,7 @@ ghost use Rattle.notation.specs.Line.{index_of, part, end_of, answer_end, number
 
 use common::byte_or;
 
-// The place of an image that has the number of the bytes lent.
+// The place of an image that has the number of the bytes lent; the examples write it there.
 const LENT: usize = 65;
 
 // A text as far as it was read: the place where the next byte goes, the number that the last five bytes make, also if their digits are decimal,

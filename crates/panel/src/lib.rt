@@ -115,7 +115,7 @@ impl Panel {
         }
     }
 
-    // An event that both panel kinds share.
+    // An event that both panel kinds share. Each has a method of its own below, kept for the promise that it states.
     fn on_core<F: FnOnce(Core) -> Core>(mut self, event: F) -> Panel
         requires { F.IsAlwaysCallable event }
         ensures core { F.post event self.core result.core }

@@ -141,7 +141,7 @@ pub fn write(mut registers: [u8; 16], a: usize, bytes: &[u8]) -> [u8; 16]
     registers
 }
 
-// What a write of the byte b to 09h loads, 0 where that turns the watchdog off.
+// What a write of the byte b to 09h loads, 0 where that turns the watchdog off: kept as a count, which is what is left of it.
 pub fn watchdog_load(b: u8) -> Sixteenths
     ensures { result ≡ watchdog_load b }
 {

@@ -5,7 +5,11 @@ use mathlib.Core.Bool.{cond, ◌&&◌}
 use native.Mathlib.Omega.{arith}
 use borrow.Author.Tests.{eq-eqb}
 use Rattle.common.proofs.Choice.{on_true, and_both}
-use Rattle.std.specs.Prelude.{Some, None}
+use Rattle.std.specs.Prelude.{Option, Some, None}
+use Rattle.std.specs.Option.{ok_or}
+use Rattle.common.specs.declared.refusal.Refusal.TheVariants.{NoKey}
+use Rattle.common.specs.Refused.{number_of}
+use Rattle.remote.specs.declared.RemoteKey.{RemoteKey}
 use Rattle.remote.specs.Frame.{complements, remote_key, nec_key, rc5_key, sent_by, key_of, refusal_of}
 
 -- NEC, first byte lowest
@@ -62,3 +66,12 @@ rc5_frame_lem t a c g h k =
 pub no_protocol : (f : ℕ) → refusal_of (key_of 0 f) ≡ 11
 unfolding key_of sent_by
 no_protocol f = refl
+
+pub no_key_by_0 : (f : ℕ) → key_of 0 f ≡ None
+unfolding key_of sent_by
+no_key_by_0 f = refl
+
+-- the number of a frame's call is that of the answer which refuses where there is no key
+pub refused_as : (r : Option RemoteKey) → refusal_of r ≡ number_of (ok_or r NoKey)
+refused_as (Some k) = refl
+refused_as None = refl

@@ -1,4 +1,5 @@
 // The calls of the worked examples as their lines write them: a word, which is known by its first letter, and its arguments, up to >.
+// The image, which a call changes, and the line, which it reads, are kept as parameters: a struct of the two would hold a loan that each clause undoes.
 #![tactic(auto)]
 
 ghost use Rattle.std.specs.Prelude.{◌≡◌, ◌==◌, [], is_ok};
@@ -103,7 +104,7 @@ fn event_after(image: &mut [u8], word: u8, line: &[u8]) -> Result<(), Failure>
     event(image, word, n)
 }
 
-// The call of a word, which begins the line.
+// The call of a word, which begins the line. Kept as a match, as in `event`.
 #[tactic(auto, unfolding(crate::specs::Script::made))]
 pub fn call(image: &mut [u8], out: &mut [u8], word: u8, line: &[u8]) -> Result<(), Failure>
     ensures { outcome (result_number result) image.new out.new ≡ made word line.now image.old out.old }

@@ -13,6 +13,7 @@ fn note(answers: &mut [u32], i: usize, number: u32)
     }
 }
 
+// Kept as two slices, which the caller lends: there may be fewer places than returns, and `series/Demand.Demand3` speaks of each.
 // Calls supply return after each n of ns in turn, and writes each call's number to its place in answers, as far as answers has places.
 pub fn supply_series(image: &mut [u8], ns: &[u32], answers: &mut [u32])
     ensures { Demand3 image.old ns.now answers.old image.new answers.new }

@@ -11,7 +11,7 @@ use Rattle.std.specs.Prelude.{Option, Some, None, Result, Ok}
 use Rattle.common.specs.declared.refusal.Refusal.{Refusal}
 use Rattle.common.specs.Grounds.{ground}
 use Rattle.remote.specs.declared.RemoteKey.{RemoteKey}
-use Rattle.remote.specs.Frame.{key_of}
+use Rattle.remote.specs.Frame.{key_of, refusal_of}
 use Rattle.controller.specs.declared.Core.{Core}
 use Rattle.controller.specs.Remote.{keyed}
 use Rattle.display.specs.Lines.{lines_of}
@@ -50,9 +50,10 @@ module _ (l : List ℕ) (valid : is_valid l ≡ true) where
 
   -- a remote frame
   module _ (frame : ℕ) where
-    pub frame_refused : received l frame ≡ None → outcome 11 l [] ≡ frame_call l frame
+    pub frame_refused : received l frame ≡ None → outcome (refusal_of (received l frame)) l [] ≡ frame_call l frame
     frame_refused e =
-        refused (frame_grounds l frame) l [] (image_after (keyed_by (received l frame)) l) [] 11 (λ (z : ◌≡◌ {A = ℕ} 11 0). omega arith)
+        ap (λ (r : Option RemoteKey). outcome (refusal_of r) l []) e
+        ∙ refused (frame_grounds l frame) l [] (image_after (keyed_by (received l frame)) l) [] 11 (λ (z : ◌≡◌ {A = ℕ} 11 0). omega arith)
         (first_holds (is_no_key (received l frame)) 11 [] (ap is_no_key e) ∙ first_passed (not (is_valid l)) 1 (ground 11 (is_no_key (received l frame)) ∷ []) good)
 
     pub frame_done : (k : RemoteKey) → received l frame ≡ Some k → (m : List ℕ) → m ≡ image_after (keyed_by (Some k)) l → outcome 0 m [] ≡ frame_call l frame

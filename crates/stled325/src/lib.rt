@@ -1,4 +1,6 @@
-// The calls over a lent image of 64 bytes, which stled325_c exports: each checks it, and leaves what its event leaves. A refused call leaves image and output as they were.
+// The calls over a lent image of 64 bytes, which stled325_c exports: each checks it, and leaves what its event leaves. A refused call leaves image and
+// output as they were.
+// Kept as ten functions with the parameters that C gives, one for each exported call.
 #![tactic(auto)]
 
 ghost use Rattle.std.specs.Prelude.{◌≡◌, []};
@@ -71,10 +73,10 @@ pub fn stled325_command(image: &mut [u8], bytes: &[u8], out: &mut [u8]) -> Resul
     ensures { outcome (number_of result) image.new out.new ≡ command_call image.old bytes.now out.old }
 {
     let panel = validity::read(image)?;
-    // Kept as `let .. else`, the form that the panel's description names for this place.
+    // Kept as `let .. else`, which docs/DECISIONS.md, "Named forms", has for this place.
     let decoded = command::decode(bytes, panel.core.power.stby, out.len());
     let Ok(command) = decoded else {
-        return decoded.and(Ok(()));
+        return decoded.map(|_| ());
     };
     let next = panel.execute(command, bytes)?;
     panel.reply(command, out);

@@ -29,10 +29,10 @@ const RPT5: u8 = 64;
 
 const RPT6: u8 = 64;
 
-// The value of an alarm field whose byte has a nibble above 9: no possible time.
+// The value of an alarm field whose byte has a nibble above 9: no possible time, and so kept as a value, for which no search needs a case.
 const NO_TIME: u32 = 255;
 
-// The number that a byte's two digits write.
+// The number that a byte's two digits write. Kept by hand, with its inverse below: the library has no two digits in a byte.
 fn number(b: u8) -> u32
     ensures { result ≡ digits b }
 {
@@ -121,7 +121,7 @@ pub fn valid(registers: [u8; 16]) -> bool
         & (year <= 99)
 }
 
-// A byte below the flag in b7.
+// A byte below the flag in b7. Kept beside `under_b7_b6`: with the weight as a parameter the sum fits a byte only on a condition.
 fn under_b7(flag: u8, b: u8) -> u8
     ensures { result ≡ under_b7 flag b }
 {

@@ -79,13 +79,15 @@ fn is_sound(p: Panel) -> bool
         & ((remote.fresh != 0) | (remote.command == 0))
 }
 
-// Whether 64 bytes are a valid image.
-fn is_valid_image(image: [u8; 64]) -> bool
-    ensures { result ≡ is_valid image }
+// Whether 64 bytes are a valid image. The registers are taken from the bytes as they are lent, which the processor does at once.
+#[inline(never)]
+fn is_valid_image(image: &[u8; IMAGE_LEN]) -> bool
+    ensures { result ≡ is_valid image.now }
 {
-    if !timekeeper::valid(image::decode_registers(image)) {
+    if !timekeeper::valid(image::load_registers(image)) {
         return false;
     }
+    let image = *image;
     unnamed_clear(image) & tail_clear(image) & is_sound(image::decode(image))
 }
 
@@ -94,18 +96,19 @@ fn is_valid_image(image: [u8; 64]) -> bool
 pub fn is_valid(image: &[u8]) -> bool
     ensures { result ≡ is_valid image.now }
 {
-    <[u8; IMAGE_LEN]>::try_from(image).is_ok_and(is_valid_image)
+    <&[u8; IMAGE_LEN]>::try_from(image).is_ok_and(is_valid_image)
 }
 
 // The panel in a valid image.
+#[inline(always)]
 #[tactic(auto, using(crate::proofs::Tests::not_sized, crate::proofs::Laws::read_sound))]
 pub fn read(image: &[u8]) -> Result<Panel, Refusal>
     ensures value { result ≡ panel_read image.now }
     ensures sound { IfOk result SoundPanel }
 {
-    let image = <[u8; IMAGE_LEN]>::try_from(image).map_err(|_| Refusal::InvalidImage)?;
+    let image = <&[u8; IMAGE_LEN]>::try_from(image).map_err(|_| Refusal::InvalidImage)?;
     if is_valid_image(image) {
-        Ok(image::decode(image))
+        Ok(image::decode(*image))
     } else {
         Err(Refusal::InvalidImage)
     }

@@ -19,7 +19,7 @@ fn make(image: &mut [u8], line: &[u8], word: u8) -> [u8; 66] {
     notation::numbered(answer, script::number(result))
 }
 
-// The examples as they run: where they print, the image, and whether an example is open and all went as written.
+// The examples as they run: where they print, the image, and whether an example is open and all went as written, a flag that goes with no value.
 #[derive(Drop)]
 struct Examples<W> {
     out: W,
