@@ -76,7 +76,7 @@ pub fn stled325_command(image: &mut [u8], bytes: &[u8], out: &mut [u8]) -> Resul
     // Kept as `let .. else`, which docs/DECISIONS.md, "Named forms", has for this place.
     let decoded = command::decode(bytes, panel.core.power.stby, out.len());
     let Ok(command) = decoded else {
-        return decoded.map(|_| ());
+        return decoded.and(Ok(()));
     };
     let next = panel.execute(command, bytes)?;
     panel.reply(command, out);
