@@ -1,5 +1,5 @@
 // Decoding a command: its bytes are a command, or are refused.
-// Below, c is the first byte, a the second and b the third, 0 where there is none; n counts the bytes, and room those of the output.
+// Below, c is the first byte, a the second and b the third, n counts the bytes, and room those of the output.
 #![tactic(auto)]
 
 ghost use Rattle.std.specs.Prelude.{◌≡◌};
@@ -30,6 +30,7 @@ const STANDBY: u8 = 0xC1;
 
 const RELOAD_GUARD: u8 = 0xC2;
 
+// Kept a plain value, without the data of 40h and 50h: a slice in it has a place in memory, and `command/Decode.decoded_of` says of a command its numbers alone.
 #[derive(Clone, Copy, Debug, PartialEq, Eq)]
 pub enum Command {
     // Configuration bits; protocol and guard value.
@@ -119,13 +120,6 @@ fn room_needed(c: u8) -> usize
     }
 }
 
-// Whether the command or the output is too short.
-fn is_too_short(c: u8, n: usize, room: usize) -> bool
-    ensures { result ≡ too_short c n room }
-{
-    (n < bytes_needed(c)) | (room < room_needed(c))
-}
-
 // Whether x is not from lo to hi.
 fn is_outside(lo: u8, hi: u8, x: u8) -> bool
     ensures { result ≡ outside lo hi x }
@@ -133,82 +127,101 @@ fn is_outside(lo: u8, hi: u8, x: u8) -> bool
     (x < lo) | (hi < x)
 }
 
-// Whether a command's address is out of its range.
-fn is_address_out(c: u8, a: u8) -> bool
-    ensures { result ≡ address_out c a }
-{
-    (c == WRITE_DIGITS) & is_outside(0x10, 0x14, a)
-        | (c == WRITE_REGISTERS) & is_outside(0x01, 0x0F, a)
-        | (c == READ_REGISTERS) & is_outside(0x00, 0x0F, a)
+// A command's first three bytes, 0 where there is none, and how many bytes it has.
+#[derive(Clone, Copy)]
+struct Head {
+    c: u8,
+    a: u8,
+    b: u8,
+    n: usize,
 }
 
-// Whether the configuration names a protocol, in b6..b4, that is not 0, 2 or 4.
-fn is_protocol_out(c: u8, a: u8) -> bool
-    ensures { result ≡ protocol_out c a }
-{
-    configures(c) & !remote::is_protocol(a / 16 % 8)
-}
+impl Head {
+    // Whether the command or the output is too short.
+    fn is_too_short(self, room: usize) -> bool
+        ensures { result ≡ too_short self.c self.n room }
+    {
+        (self.n < bytes_needed(self.c)) | (room < room_needed(self.c))
+    }
 
-// Whether the configuration gives other digits than 1 to 5.
-fn is_digits_out(c: u8, b: u8) -> bool
-    ensures { result ≡ digits_out c b }
-{
-    gives_digits(c) & is_outside(1, 5, b)
-}
+    // Whether the address is out of the command's range.
+    fn is_address_out(self) -> bool
+        ensures { result ≡ address_out self.c self.a }
+    {
+        (self.c == WRITE_DIGITS) & is_outside(0x10, 0x14, self.a)
+            | (self.c == WRITE_REGISTERS) & is_outside(0x01, 0x0F, self.a)
+            | (self.c == READ_REGISTERS) & is_outside(0x00, 0x0F, self.a)
+    }
 
-// Refuses by the first ground that holds, in the table's order.
-#[tactic(auto, unfolding(crate::specs::Refusals::grounds_by))]
-fn check(c: u8, a: u8, b: u8, n: usize, standby: bool, room: usize) -> Result<(), Refusal>
-    ensures { number_of result ≡ first_ground (grounds_by c a b n standby room) }
-{
-    if n == 0 {
-        return Err(Refusal::EmptyCommand);
+    // Whether the configuration names a protocol, in b6..b4, that is not 0, 2 or 4.
+    fn is_protocol_out(self) -> bool
+        ensures { result ≡ protocol_out self.c self.a }
+    {
+        configures(self.c) & !remote::is_protocol(self.a / 16 % 8)
     }
-    if standby {
-        return Err(Refusal::InStandby);
-    }
-    if !is_listed(c) {
-        return Err(Refusal::UnlistedCommand);
-    }
-    if is_too_short(c, n, room) {
-        return Err(Refusal::TooShort);
-    }
-    if is_address_out(c, a) {
-        return Err(Refusal::AddressOut);
-    }
-    if is_protocol_out(c, a) {
-        return Err(Refusal::ProtocolOut);
-    }
-    if is_digits_out(c, b) {
-        return Err(Refusal::DigitsOut);
-    }
-    Ok(())
-}
 
-// The command that the bytes are, c being a listed one.
-#[tactic(auto, unfolding(crate::specs::Decode::command_by))]
-fn command_by(c: u8, a: u8, b: u8) -> Command
-    ensures { result ≡ command_by c a b }
-{
-    if gives_digits(c) {
-        return Command::ConfigureDigits(c / 32 * 32 + c % 16, a % 128, b);
+    // Whether the configuration gives other digits than 1 to 5.
+    fn is_digits_out(self) -> bool
+        ensures { result ≡ digits_out self.c self.b }
+    {
+        gives_digits(self.c) & is_outside(1, 5, self.b)
     }
-    if configures(c) {
-        return Command::Configure(c, a % 128);
+
+    // Refuses by the first ground that holds, in the table's order.
+    #[tactic(auto, unfolding(crate::specs::Refusals::grounds_by))]
+    fn check(self, standby: bool, room: usize) -> Result<(), Refusal>
+        ensures { number_of result ≡ first_ground (grounds_by self.c self.a self.b self.n standby room) }
+    {
+        if self.n == 0 {
+            return Err(Refusal::EmptyCommand);
+        }
+        if standby {
+            return Err(Refusal::InStandby);
+        }
+        if !is_listed(self.c) {
+            return Err(Refusal::UnlistedCommand);
+        }
+        if self.is_too_short(room) {
+            return Err(Refusal::TooShort);
+        }
+        if self.is_address_out() {
+            return Err(Refusal::AddressOut);
+        }
+        if self.is_protocol_out() {
+            return Err(Refusal::ProtocolOut);
+        }
+        if self.is_digits_out() {
+            return Err(Refusal::DigitsOut);
+        }
+        Ok(())
     }
-    if sets_display(c) {
-        return Command::SetDisplay(c % 32);
-    }
-    match c {
-        WRITE_DIGITS => Command::WriteDigits(a),
-        WRITE_REGISTERS => Command::WriteRegisters(a),
-        READ_KEYS => Command::ReadKeys,
-        READ_REMOTE => Command::ReadRemote,
-        READ_INTERRUPTS => Command::ReadInterrupts,
-        READ_REGISTERS => Command::ReadRegisters(a),
-        SET_HOT_KEYS => Command::SetHotKeys(a, b),
-        STANDBY => Command::Standby,
-        _ => Command::ReloadGuard,
+
+    // The command that the bytes are, the first of them being a listed one.
+    #[tactic(auto, unfolding(crate::specs::Decode::command_by))]
+    fn command(self) -> Command
+        ensures { result ≡ command_by self.c self.a self.b }
+    {
+        let Head { c, a, b, .. } = self;
+        if gives_digits(c) {
+            return Command::ConfigureDigits(c / 32 * 32 + c % 16, a % 128, b);
+        }
+        if configures(c) {
+            return Command::Configure(c, a % 128);
+        }
+        if sets_display(c) {
+            return Command::SetDisplay(c % 32);
+        }
+        match c {
+            WRITE_DIGITS => Command::WriteDigits(a),
+            WRITE_REGISTERS => Command::WriteRegisters(a),
+            READ_KEYS => Command::ReadKeys,
+            READ_REMOTE => Command::ReadRemote,
+            READ_INTERRUPTS => Command::ReadInterrupts,
+            READ_REGISTERS => Command::ReadRegisters(a),
+            SET_HOT_KEYS => Command::SetHotKeys(a, b),
+            STANDBY => Command::Standby,
+            _ => Command::ReloadGuard,
+        }
     }
 }
 
@@ -217,9 +230,12 @@ fn command_by(c: u8, a: u8, b: u8) -> Command
 pub fn decode(s: &[u8], standby: bool, room: usize) -> Result<Command, Refusal>
     ensures { result ≡ decoded_of s.now standby room }
 {
-    let c = common::byte_or(s, 0, 0);
-    let a = common::byte_or(s, 1, 0);
-    let b = common::byte_or(s, 2, 0);
-    check(c, a, b, s.len(), standby, room)?;
-    Ok(command_by(c, a, b))
+    let head = Head {
+        c: common::byte_or(s, 0, 0),
+        a: common::byte_or(s, 1, 0),
+        b: common::byte_or(s, 2, 0),
+        n: s.len(),
+    };
+    head.check(standby, room)?;
+    Ok(head.command())
 }

@@ -1,5 +1,6 @@
 // Demands 1 and 2 are theorems over `after`, the outcome of an event. Each function here makes one exported call, and its promise says that
 // what the call does is that outcome; so the theorems are of the calls themselves, and a call that promised less would fail here.
+// Kept as ten functions, one for each call that a theorem speaks of.
 #![tactic(auto)]
 
 ghost use Rattle.std.specs.Prelude.{◌≡◌, []};

@@ -13,7 +13,7 @@ use controller::{Core, Remote, Setup};
 use registers::{DATE, HOURS, MINUTES, MONTH, SECONDS, WATCHDOG, WEEKDAY, YEAR};
 use units::{Seconds, Sixteenths};
 
-// Whether one of n data bytes from address a on goes to address x.
+// Whether one of n data bytes from address a on goes to address x. Kept as two numbers, and not as the range a..a + n, whose end may be too large.
 pub fn touches(a: usize, n: usize, x: usize) -> bool
     ensures { result ≡ touched a n x }
 {
@@ -92,7 +92,7 @@ fn clear_interrupts(mut c: Core) -> Core
 fn set_mask(mut c: Core, low: u8, high: u8) -> Core
     ensures { result ≡ mask_set low high c }
 {
-    c.keys.mask = (low as u32) + 256 * (high as u32);
+    c.keys.mask = u32::from(u16::from_le_bytes([low, high]));
     c
 }
 

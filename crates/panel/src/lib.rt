@@ -78,33 +78,26 @@ fn execute_display(d: Display, k: Command, s: &[u8]) -> Display
     }
 }
 
-// 61h: replies the key store, low byte first.
-fn reply_keys(c: Core, out: &mut [u8])
-    ensures { out.new ≡ answered (keys_reply c) (length out.old) }
+// 61h: the key store, low byte first.
+fn keys_reply(c: Core) -> [u8; 2]
+    ensures { result ≡ keys_reply c }
 {
     let [low, high, ..] = c.keys.store.to_le_bytes();
-    output::answer(out, &[low, high]);
+    [low, high]
 }
 
-// 62h: replies the remote key.
-fn reply_remote(c: Core, out: &mut [u8])
-    ensures { out.new ≡ answered (remote_reply c) (length out.old) }
+// 62h: the remote key.
+fn remote_reply(c: Core) -> [u8; 3]
+    ensures { result ≡ remote_reply c }
 {
-    output::answer(out, &[c.remote.fresh, c.remote.address, c.remote.command]);
+    [c.remote.fresh, c.remote.address, c.remote.command]
 }
 
-// 63h: replies the interrupt byte and the flags.
-fn reply_interrupts(c: Core, out: &mut [u8])
-    ensures { out.new ≡ answered (interrupts_reply c) (length out.old) }
+// 63h: the interrupt byte and the flags.
+fn interrupts_reply(c: Core) -> [u8; 2]
+    ensures { result ≡ interrupts_reply c }
 {
-    output::answer(out, &[c.interrupt, c.rtc.flags]);
-}
-
-// 70h: replies the registers from address a on.
-fn reply_registers(registers: [u8; 16], a: usize, out: &mut [u8])
-    ensures { out.new ≡ answered (drop a registers) (length out.old) }
-{
-    output::answer(out, &registers[a.min(registers.len())..]);
+    [c.interrupt, c.rtc.flags]
 }
 
 impl Panel {
@@ -181,10 +174,13 @@ impl Panel {
         ensures { out.new ≡ output_after self.core k out.old }
     {
         match k {
-            Command::ReadKeys => reply_keys(self.core, out),
-            Command::ReadRemote => reply_remote(self.core, out),
-            Command::ReadInterrupts => reply_interrupts(self.core, out),
-            Command::ReadRegisters(a) => reply_registers(self.core.rtc.registers, a as usize, out),
+            Command::ReadKeys => output::answer(out, &keys_reply(self.core)),
+            Command::ReadRemote => output::answer(out, &remote_reply(self.core)),
+            Command::ReadInterrupts => output::answer(out, &interrupts_reply(self.core)),
+            Command::ReadRegisters(a) => {
+                let registers = self.core.rtc.registers;
+                output::answer(out, &registers[usize::from(a).min(registers.len())..]);
+            }
             _ => {}
         }
     }

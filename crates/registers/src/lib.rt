@@ -130,7 +130,8 @@ fn store(dst: &mut [u8], a: usize, bytes: &[u8])
     }
 }
 
-// The registers after bytes are written from address a on: the part from there is lent on to be stored into.
+// The registers after bytes are written from address a on: the part from there is lent on to be stored into. Address and bytes are kept as two
+// parameters here and above: a struct of the two would hold the slice, and each clause would name both through `.entry`.
 pub fn write(mut registers: [u8; 16], a: usize, bytes: &[u8]) -> [u8; 16]
     ensures { result ≡ written registers a bytes.now }
 {

@@ -2,7 +2,7 @@
 #![tactic(auto)]
 
 ghost use Rattle.std.specs.Prelude.{◌≡◌};
-ghost use Rattle.remote.specs.Frame.{is_protocol, addressed, nec_key, rc5_key, sent_by, key_of};
+ghost use Rattle.remote.specs.Frame.{is_protocol, addressed, complements, nec_key, rc5_key, sent_by, key_of};
 
 // The protocols of which a frame can be a key, as b6..b4 of image byte 21 hold them.
 const RC5: u8 = 2;
@@ -30,18 +30,21 @@ fn is_addressed(address: u8) -> bool
     address == 0
 }
 
+// Whether one byte is the complement of the other.
+fn are_complements(b: u8, c: u8) -> bool
+    ensures { result ≡ complements b c }
+{
+    u16::from(b) + u16::from(c) == 255
+}
+
 // NEC: address, its complement, command, its complement, the first byte lowest.
 #[tactic(auto, unfolding(crate::specs::Frame::nec_key))]
 fn nec_key(frame: u32) -> Option<RemoteKey>
     ensures { result ≡ nec_key frame }
 {
-    let address = frame % 256;
-    let command = frame / 65_536 % 256;
-    if (address + frame / 256 % 256 == 255) & (command + frame / 16_777_216 % 256 == 255) {
-        return Some(RemoteKey {
-            address: address as u8,
-            command: command as u8,
-        });
+    let [address, inverted_address, command, inverted_command] = frame.to_le_bytes();
+    if are_complements(address, inverted_address) & are_complements(command, inverted_command) {
+        return Some(RemoteKey { address, command });
     }
     None
 }
@@ -62,7 +65,7 @@ fn rc5_key(frame: u32) -> Option<RemoteKey>
     None
 }
 
-// The key that a frame of this protocol sends, for any device.
+// The key that a frame of this protocol sends, for any device. The protocol is kept as a number: an image may hold any below 8 (`controller::Setup`).
 #[tactic(auto, unfolding(crate::specs::Frame::sent_by))]
 fn sent_by(protocol: u8, frame: u32) -> Option<RemoteKey>
     ensures { result ≡ sent_by protocol frame }

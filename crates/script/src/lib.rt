@@ -70,7 +70,7 @@ fn command(image: &mut [u8], out: &mut [u8], line: &[u8]) -> Result<(), Failure>
     returned(stled325_command(image, sent, out))
 }
 
-// An event of a word.
+// An event of a word. Kept as a match: which call a letter is, is what it says, and the calls take unlike arguments.
 #[tactic(auto, unfolding(crate::specs::Script::event_made))]
 fn event(image: &mut [u8], word: u8, n: u32) -> Result<(), Failure>
     ensures { outcome (result_number result) image.new [] ≡ event_made word n image.old }

@@ -1,4 +1,5 @@
 // The calls exported to C: each is the library's call of its name, with the same promise, and returns the number of its answer.
+// Kept as ten functions: C calls each by its name.
 #![tactic(auto)]
 
 ghost use Rattle.std.specs.Prelude.{◌≡◌, []};

@@ -41,31 +41,24 @@ fn unnamed_clear(image: [u8; 64]) -> bool
 fn in_ranges(p: Panel) -> bool
     ensures { result ≡ conj (range_tests p) }
 {
-    let core = p.core;
-    let display = p.display;
-    (core.rtc.sixteenths.0 < 16)
-        & (core.remote.fresh < 2)
-        & (1 <= display.digits)
-        & (display.digits <= 5)
+    (p.core.rtc.sixteenths.0 < 16)
+        & (p.core.remote.fresh < 2)
+        & (1 <= p.display.digits)
+        & (p.display.digits <= 5)
 }
 
 // Whether guard left is at most what the guard loads.
 fn guard_within(core: Core) -> bool
     ensures { result ≡ guard_within core }
 {
-    let value = core.setup.guardvalue;
-    let load = Sixteenths::from(value);
-    core.power.guard.0 <= load.0
+    core.power.guard <= Sixteenths::from(core.setup.guardvalue)
 }
 
 // Whether watchdog left is at most what register 09h loads.
 fn watchdog_within(core: Core) -> bool
     ensures { result ≡ watchdog_within core }
 {
-    let rtc = core.rtc;
-    let registers = rtc.registers;
-    let load = registers::watchdog_load(registers[WATCHDOG]);
-    rtc.watchdog.0 <= load.0
+    core.rtc.watchdog <= registers::watchdog_load(core.rtc.registers[WATCHDOG])
 }
 
 // Whether the state, its calendar apart, is one that a valid image holds.
