@@ -94,7 +94,7 @@ fn write_unpadded(x: u8) -> Pair
     }
 }
 
-// The hours: from 1 to 12 where 12/24 is set, else nibble by nibble.
+// The hours: from 1 to 12 where 12/24 is set, else nibble by nibble. The two digits are kept in eight bits, where `timekeeper` has them in 32.
 #[tactic(auto, unfolding(crate::specs::Hours::hours_shown))]
 fn write_hours(registers: [u8; 16]) -> Pair
     ensures { result ≡ hours_shown registers }

@@ -36,7 +36,7 @@ fn digit(c: u8) -> Option<u8>
 }
 
 impl Reading {
-    // A pair of digits is whole: a place in decimal, or a byte.
+    // A pair of digits is whole: a place in decimal, or a byte. Kept by hand, as the two digits of `numbered`: the library has no two digits in a byte.
     fn read_pair(self, value: u8) -> Reading
         ensures { result ≡ pair_read self value }
     {

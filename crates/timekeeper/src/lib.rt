@@ -70,7 +70,7 @@ pub fn clock_of(registers: [u8; 16]) -> Clock
     }
 }
 
-// Whether each nibble of the calendar is at most 9.
+// Whether each nibble of the calendar is at most 9. Kept test by test, as their list `timekeeper/Bcd.decimal_tests` has them.
 fn decimal_fields(registers: [u8; 16]) -> bool
     ensures { result ≡ conj (decimal_tests (field_bytes registers)) }
 {
