@@ -100,7 +100,7 @@ impl Alarm {
     fn first_time(self, t: u32) -> u32
         ensures { result ≡ first_from (time_fits self) t (86_400 - t) }
     {
-        // Kept as a `while`: a step passes over a second, a minute or an hour.
+        // Kept as a number for none, as in `first_match`, and as a `while`: a step passes over a second, a minute or an hour.
         let mut u = t;
         while u < 86_400 {
             if self.time_fits(u) {

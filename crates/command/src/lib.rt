@@ -94,7 +94,7 @@ fn is_listed(c: u8) -> bool
         | (c == RELOAD_GUARD)
 }
 
-// How many bytes a command has at least.
+// How many bytes a command has at least: a count, no code.
 #[tactic(auto, unfolding(crate::specs::Refusals::bytes_needed))]
 fn bytes_needed(c: u8) -> usize
     ensures { result ≡ bytes_needed c }
@@ -108,7 +108,7 @@ fn bytes_needed(c: u8) -> usize
     }
 }
 
-// How long an output its reply needs.
+// How long an output its reply needs: a count, no code.
 #[tactic(auto, unfolding(crate::specs::Refusals::room_needed))]
 fn room_needed(c: u8) -> usize
     ensures { result ≡ room_needed c }
@@ -129,7 +129,7 @@ fn is_outside(lo: u8, hi: u8, x: u8) -> bool
     (x < lo) | (hi < x)
 }
 
-// A command's first three bytes, 0 where there is none, and how many bytes it has.
+// A command's first three bytes, 0 where there is none, and how many bytes it has. The 0 is kept: it is `command/Refusals.byte`.
 #[derive(Clone, Copy)]
 struct Head {
     c: u8,

@@ -47,6 +47,7 @@ pub struct Rtc {
 }
 
 // The lines READY, WAKE_UP and STBY, and what is left of the guard, 0 where it is not running, kept as a count as in `Rtc`.
+// The three levels are kept as flags: no value stands beside one.
 #[derive(Clone, Copy)]
 pub struct Power {
     pub ready: bool,

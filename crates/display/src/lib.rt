@@ -84,7 +84,7 @@ fn write_nibbles(b: u8) -> Pair
     }
 }
 
-// A number by its two decimal digits, the leading zero blank.
+// A number by its two decimal digits, the leading zero blank. Kept beside `write_nibbles`: base 10 and a blank here, base 16 and a digit there.
 fn write_unpadded(x: u8) -> Pair
     ensures { result ≡ unpadded x }
 {

@@ -110,7 +110,7 @@ fn set_registers(mut c: Core, a: usize, n: usize, registers: [u8; 16]) -> Core
     c
 }
 
-// 50h: data go to the registers from address a on, all or nothing.
+// 50h: data go to the registers from address a on, all or nothing. Address and bytes are kept apart as in `registers::write`.
 #[tactic(auto, unfolding(crate::specs::Write::registers_answer, crate::specs::Write::registers_written, timekeeper::specs::Commit::committed))]
 fn write_registers(c: Core, a: usize, bytes: &[u8]) -> Result<Core, Refusal>
     ensures { result ≡ registers_answer a bytes.now c }
@@ -126,7 +126,8 @@ pub fn data_of(s: &[u8]) -> &[u8]
     &s[s.len().min(2)..]
 }
 
-// The state after an accepted command, whose bytes are s; a write that leaves no valid calendar is refused.
+// The state after an accepted command, whose bytes are s; a write that leaves no valid calendar is refused. Command and bytes
+// are kept apart: see `command::Command`.
 #[tactic(auto, unfolding(crate::specs::Write::registers_answer))]
 pub fn execute(c: Core, k: Command, s: &[u8]) -> Result<Core, Refusal>
     ensures { result ≡ command_answer c k s.now }

@@ -175,7 +175,7 @@ fn write_word(image: &mut [u8; 64], at: usize, x: u64)
     image[at + 1] = high;
 }
 
-// The image of a state.
+// The image of a state. The byte of the sixteenths is kept by hand: `to_le_bytes` would give eight.
 pub fn encode(p: Panel) -> [u8; 64]
     ensures { result ≡ encoded p }
 {
@@ -203,8 +203,8 @@ pub fn encode(p: Panel) -> [u8; 64]
     image
 }
 
-// The image's bytes by value; the compiler copies 64 bytes faster than as many as there are. Kept as a slice of so many bytes, here, in `save` and in
-// `events`: of a slice lent to be changed, what a refused conversion to an array leaves is not proved.
+// The image's bytes by value; the compiler copies 64 bytes faster than as many as there are. Kept as a slice of so many bytes, as in `save` and
+// `events`: of a slice lent to be changed, what a refused conversion to an array leaves is not proved, and here no conversion could be refused.
 pub fn load(image: &[u8]) -> [u8; 64]
     requires { length image.now ≡ image_len }
     ensures { result ≡ image.now }

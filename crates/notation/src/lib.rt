@@ -149,6 +149,7 @@ pub struct Part<'a> {
 }
 
 impl<'a> Part<'a> {
+    // The part itself, cut out of the line by slices.
     #[tactic(auto, unfolding(crate::specs::Line::part))]
     fn text(self) -> &'a [u8]
         ensures { result.now ≡ part self.entry.from self.entry.to self.entry.line.now }

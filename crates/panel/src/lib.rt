@@ -25,7 +25,7 @@ pub struct Panel {
     pub display: Display,
 }
 
-// The digit byte at address x after data from address a on.
+// The digit byte at address x after data from address a on. Address and bytes are kept apart as in `registers::write`.
 fn digit_after(a: usize, bytes: &[u8], x: usize, old: u8) -> u8
     ensures { result ≡ digit_byte a bytes.now x old }
 {
@@ -66,7 +66,7 @@ fn set_display(mut d: Display, x: u8) -> Display
     d
 }
 
-// The display after an accepted command, whose bytes are s.
+// The display after an accepted command, whose bytes are s, kept apart from it: see `command::Command`.
 fn execute_display(d: Display, k: Command, s: &[u8]) -> Display
     ensures { result ≡ display_executed d k s.now }
 {

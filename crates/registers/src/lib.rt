@@ -120,7 +120,7 @@ pub fn reserved_clear(registers: [u8; 16]) -> bool
         & (registers[ALARM_WEEKDAY] % 16 == 0)
 }
 
-// Stores bytes over dst, whose first byte is register a.
+// Stores bytes over dst, whose first byte is register a. The index is kept, since the register's address goes with it.
 fn store(dst: &mut [u8], a: usize, bytes: &[u8])
     requires { a + length dst.old ≤ 16 }
     ensures { dst.new ≡ stored a dst.old bytes.now }

@@ -15,7 +15,7 @@ use stled325::{
     stled325_remote_frame, stled325_show, stled325_supply_return, stled325_tick, stled325_wake_up,
 };
 
-// Why the call of a line failed.
+// Why the call of a line failed. Kept an enum: `Option<Refusal>` would not say what `None` is.
 #[derive(Clone, Copy, Debug, PartialEq, Eq)]
 pub enum Failure {
     // The line writes no call.

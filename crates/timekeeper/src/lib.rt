@@ -197,7 +197,7 @@ pub fn alarm_of(registers: [u8; 16]) -> Alarm
     }
 }
 
-// Command 50h: bytes from address a on, all or nothing, judged on the finished registers.
+// Command 50h: bytes from address a on, all or nothing, judged on the finished registers. Address and bytes are kept apart as in `registers::write`.
 #[tactic(auto, unfolding(crate::specs::Commit::committed))]
 pub fn commit(registers: [u8; 16], a: usize, bytes: &[u8]) -> Result<[u8; 16], Refusal>
     ensures { result ≡ committed registers a bytes.now }

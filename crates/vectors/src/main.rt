@@ -10,7 +10,8 @@ use std::io::{BufWriter, Read, Write};
 
 const IMAGE: usize = 66;
 
-// Makes the call on the bytes that are lent of the image. The answer is its number and then its output, with EEh where nothing is written.
+// Makes the call on the bytes that are lent of the image; image, line and word are kept apart as in `script`, and the count lent is what an example writes.
+// The answer is its number and then its output, with EEh where nothing is written.
 fn make(image: &mut [u8], line: &[u8], word: u8) -> [u8; 66] {
     let lent = notation::lent(image);
     let end = notation::answer_end(line);
