@@ -30,17 +30,8 @@ module _ (a : Alarm) (t u : ℕ) (s : Searched a t u) where
           none = longer (time_fits a) t u r s.none (λ w i j. candidate_none a u f w i (subst (λ (x : ℕ). w < x) e j));
         }
 
-pub loop-u-init : goal.loop-u-init
-loop-u-init c = record { low = omega arith; high = omega arith; none = λ w l h. absurd (omega arith) }
-
-pub time_fits-requires : goal.time_fits-requires
-time_fits-requires c = tt
-
 pub returns-then-time_fits : goal.returns-then-time_fits
 returns-then-time_fits c = found _ _ _ c.loop-u.invariant (λ h. sym c.time_fits.ensures ∙ c.if-time_fits.true)
-
-pub candidate_after-u-requires : goal.candidate_after-u-requires
-candidate_after-u-requires c = omega arith
 
 pub loop-u-smaller : goal.loop-u-smaller
 loop-u-smaller c =
