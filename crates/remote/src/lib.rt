@@ -2,7 +2,11 @@
 #![tactic(auto)]
 
 ghost use Rattle.std.specs.Prelude.{◌≡◌};
-ghost use Rattle.remote.specs.Frame.{is_protocol, addressed, complements, nec_key, rc5_key, sent_by, key_of};
+ghost use Rattle.std.specs.Result.{result_ok};
+ghost use Rattle.common.specs.Refused.{number_of};
+ghost use Rattle.remote.specs.Frame.{is_protocol, addressed, complements, nec_key, rc5_key, sent_by, key_of, refusal_of};
+
+use common::Refusal;
 
 // The protocols of which a frame can be a key, as b6..b4 of image byte 21 hold them.
 const RC5: u8 = 2;
@@ -83,4 +87,13 @@ pub fn key(protocol: u8, frame: u32) -> Option<RemoteKey>
     ensures { result ≡ key_of protocol frame }
 {
     sent_by(protocol, frame).filter(|key| is_addressed(key.address))
+}
+
+// The key, or why the call of a frame that is none is refused.
+#[tactic(auto, using(crate::proofs::Frames::refused_as))]
+pub fn accept(received: Option<RemoteKey>) -> Result<RemoteKey, Refusal>
+    ensures key { received ≡ result_ok result }
+    ensures number { number_of result ≡ refusal_of received }
+{
+    received.ok_or(Refusal::NoKey)
 }

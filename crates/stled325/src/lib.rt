@@ -63,7 +63,8 @@ pub fn stled325_remote_frame(image: &mut [u8], frame: u32) -> Result<(), Refusal
     ensures { outcome (number_of result) image.new [] ≡ frame_call image.old frame }
 {
     let panel = validity::read(image)?;
-    let key = remote::key(panel.core.setup.protocol, frame).ok_or(Refusal::NoKey)?;
+    let received = remote::key(panel.core.setup.protocol, frame);
+    let key = remote::accept(received)?;
     events::store(image, panel.receive_key(key));
     Ok(())
 }
